@@ -1,4 +1,4 @@
--- Lemmas on the answer to a command.
+-- Lemmas on the reply to a command.
 use Rattle.std.proofs.Common.{◌≡◌, ℕ, List, Option, Some, None, Err, refl, sym, ◌∙◌, ap}
 use Rattle.redis_resp.specs.Tree.{Tree}
 use Rattle.redis_resp.specs.declared.value.error.ParsingError.{ParsingError}
@@ -14,7 +14,7 @@ use Rattle.redis_connection.specs.Passing.{ReceivesAnswer}
 
 module _ {M R : Type 0} (reading : Tree → Option M) (may_refuse : Tree → ParsingError → Type 0) (meaning : R → M)
     (old new : Link) (args : List (List ℕ)) where
-  -- an answer that is no value
+  -- a reply that is no value
   error_in : (o : Option (List ℕ)) (a : Answer) (e : ReplyError) → Exchanges old new args a → first_error a ≡ o
       → (first_error a ≡ None → IsNoAnswer a) → IsErrorOf {R = R} o (Err e)
       → HasNoAnswer old new args reading may_refuse (refusal_of e)

@@ -1,4 +1,4 @@
--- Lemmas on what goes out and comes in.
+-- Lemmas on the bytes sent and received.
 pub mod WayLemmas
 pub mod LinkLemmas
 pub mod AskLemmas

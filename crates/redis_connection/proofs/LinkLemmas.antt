@@ -1,4 +1,4 @@
--- Lemmas on what comes in and is held.
+-- Lemmas on the bytes received and held.
 use Rattle.std.proofs.Common.{◌≡◌, ◌-◌, ◌≤◌, inl, inr, ℕ, List, [], ◌++◌, length, take, drop}
 use Rattle.std.proofs.Common.{Option, Some, None, Result, Ok, Err, IfOk, OnErr, refl, sym, ◌∙◌, ap, subst, arith, append_assoc, append-nil}
 use Rattle.std.proofs.KnownBytes.{Consumes-nil, Consumes-trans, Consumes-kept}
@@ -31,7 +31,7 @@ waits_start link = (
   },
 )
 
--- more came in behind what had
+-- more bytes were received after the others
 pub waits_on : (a b c : Link) → Waits a b → Waits b c → Waits a c
 waits_on a b c p q = (
   p.0 ++ q.0,
@@ -50,7 +50,7 @@ next_err_same h h' (wire_errors.Fault f) n = n.0
 
 module _ (old : Link) (coming : Option (List ℕ)) (h : Held) (piece : List ℕ) (unfed : ℕ)
     (w : Waits old (seen 0 None coming h piece unfed)) where
-  -- a stream that stays as it was
+  -- a stream that is unchanged
   pub waits_same : (h' : Held) → h' ≡ h → Waits old (seen 0 None coming h' piece unfed)
   waits_same h' is = subst (λ (x : Held). Waits old (seen 0 None coming x piece unfed)) (sym is) w
 
@@ -71,7 +71,7 @@ module _ (old : Link) (coming : Option (List ℕ)) (h : Held) (piece : List ℕ)
     passed = w.1.passed;
   }
 
-  -- a reply stands at the head of what the stream holds
+  -- a reply is at the start of the bytes that the stream holds
   stands_here : (len : ℕ) (a : Answer) → len ≤ length h.bytes → IsReply h.limits (take len h.bytes) a
       → Stands old (seen 0 None coming h piece unfed) len a
   stands_here len a le r = record {
@@ -166,7 +166,7 @@ faulty_feed coming h h' piece unfed (wire_errors.Fault f) same (inr full) =
     subst (λ (x : Held). IsFaulty (seen 0 None coming x piece unfed).held (errors.Fault f)) (sym same)
     (inr (is, omega (arith, full.1, length-append h.bytes (take unfed piece))))
 
--- ---- bytes that are given out
+-- ---- bytes that are consumed
 
 pub gives_out : (passed : ℕ) (written coming : Option (List ℕ)) (h : Held) (piece : List ℕ) (unfed len : ℕ)
     → GivesOut (seen passed written coming h piece unfed)
@@ -187,7 +187,7 @@ gives_out passed written coming h piece unfed len =
       passed = refl;
     }
 
--- the reply that stood there in place was received
+-- the reply that was found in place was received
 given_received : (old new : Link) (len : ℕ) → GivesOut old new len → (before : Link) (a : Answer)
     → Stands before old len a → Receives before new a
 given_received old new len g before a s =
@@ -215,7 +215,7 @@ reply_given_out passed written coming h h' piece unfed len old is given before a
     (sym given) (gives_out passed written coming h piece unfed len)) in
     given_received old new len g before a s
 
--- ---- a connection with a writer, of which nothing went out
+-- ---- a connection with a writer, to which nothing was written
 
 module _ (passed : ℕ) (written : Option (List ℕ)) (coming coming' : Option (List ℕ)) (h h' : Held) (piece piece' : List ℕ)
     (unfed unfed' : ℕ) (old : Link) (is : seen passed written coming h piece unfed ≡ old) where

@@ -1,4 +1,4 @@
--- Lemmas on messages that are passed over.
+-- Lemmas on push messages that are skipped.
 use Rattle.std.proofs.Common.{◌≡◌, ◌==◌, ℕ, zero, suc, Bool, true, false, List, [], ◌∷◌, length, take, drop}
 use Rattle.std.proofs.Common.{Option, Some, None, Result, Ok, Err, refl, sym, ◌∙◌, ap, subst, slice_get, slice_index, ℤ, ◌≤◌}
 use Rattle.std.proofs.lemmas.Bool.{eqb-true}
@@ -27,7 +27,7 @@ use Rattle.redis_connection.specs.Link.{Link, Receives, Stands, Waits, IsInPlace
 use Rattle.redis_connection.specs.Passing.{IsMessage, BeginsAsMessage, one_more, PassesOne, Passes, ReceivesAnswer}
 use Rattle.redis_connection.specs.Passing.{AwaitsAnswer, AnswerStands, IsAnswerInPlace}
 
--- ---- a value is no message
+-- ---- a value is no push message
 
 abbrev NoMessage : Result Answer Halt → Type 0
 NoMessage (Ok a) = IsMessage a → ⊥
@@ -151,7 +151,7 @@ choose : {A B C : Type 0} (w : Bool) → Where w A B → (w ≡ true → A → C
 choose true s f g = f refl s
 choose false s f g = g refl s
 
--- a reply that begins with `>` is a message
+-- what begins with `>` is a push message
 pub message_is : (limits : Limits) (text : List ℕ) (a : Answer) → IsReply limits text a → BeginsAsMessage text
     → IsMessage a
 unfolding IsAnyReply
@@ -162,7 +162,7 @@ message_is limits text a r begins = by text r.reply begins
     by (b ∷ text) s m = choose (b == 62) s (λ is p. push_is limits text a p)
         (λ is p. absurd (true_false (sym (ap (λ n. n == 62) m) ∙ is)))
 
--- and any other reply is an answer
+-- and anything else is a reply to a command
 pub answer_is : (limits : Limits) (text : List ℕ) (a : Answer) → IsReply limits text a → (BeginsAsMessage text → ⊥)
     → IsMessage a → ⊥
 unfolding IsAnyReply
@@ -173,7 +173,7 @@ answer_is limits text a r begins = by text r.reply begins
     by (b ∷ text) s m = choose (b == 62) s (λ is p. absurd (m (eqb-true b 62 is)))
         (λ is p. value_no limits limits.depth (b ∷ text) a p)
 
--- ---- messages that were passed over so far
+-- ---- push messages that were skipped so far
 
 -- one more was received and counted
 pub passes_on : (old mid here new : Link) (a : Answer) → (n : ℕ) × Passes n old mid → Receives mid here a → IsMessage a
@@ -181,16 +181,16 @@ pub passes_on : (old mid here new : Link) (a : Answer) → (n : ℕ) × Passes n
 passes_on old mid here new a p r is counted =
     (suc p.0, (mid, p.1, record { message = a; is_message = is; between = here; receives = r; counted = counted }))
 
--- an answer was
+-- a reply was received
 pub answered : (old mid new : Link) (a : Answer) → (n : ℕ) × Passes n old mid → Receives mid new a
     → (IsMessage a → ⊥) → ReceivesAnswer old new a
 answered old mid new a p r is = record { count = p.0; between = mid; passes = p.1; receives = r; is_answer = is }
 
--- none came
+-- none was received
 pub awaits : (old mid new : Link) → (n : ℕ) × Passes n old mid → Waits mid new → AwaitsAnswer old new
 awaits old mid new p w = record { count = p.0; between = mid; passes = p.1; waits = w }
 
--- the reply that stands in place does not begin with `>`
+-- the reply found in place does not begin with `>`
 pub stands_as_answer : (old mid new : Link) (len : ℕ) (bytes : List ℕ) → (n : ℕ) × Passes n old mid
     → IsInPlace mid new len → (len ≤ new.in_place → bytes ≡ take len new.held.bytes)
     → (BeginsAsMessage bytes → ⊥) → IsAnswerInPlace old new len
@@ -206,7 +206,7 @@ stands_as_answer old mid new len bytes p s received begins = (
   },
 )
 
--- it does, and so it was given out and counted
+-- it does, and so it was consumed and counted
 pub passes_in_place : (old mid here given new : Link) (len : ℕ) (bytes : List ℕ) → (n : ℕ) × Passes n old mid
     → IsInPlace mid here len → (len ≤ here.in_place → bytes ≡ take len here.held.bytes) → BeginsAsMessage bytes
     → ((before : Link) (a : Answer) → Stands before here len a → Receives before given a)

@@ -1,4 +1,4 @@
--- Lemmas on bytes that go out and come in.
+-- Lemmas on bytes that are sent and received.
 use Rattle.std.proofs.Common.{◌≡◌, ◌+◌, ◌≤◌, ℕ, List, [], length, take, drop, Option, Some, None, Result, Ok, Err}
 use Rattle.std.proofs.Common.{OnOk, OnErr, arith, sym, subst}
 use Rattle.std.proofs.Math.Seq.{take-add}
@@ -6,7 +6,7 @@ use Rattle.std.proofs.lemmas.List.{take_all}
 use Rattle.std.specs.Io.KnownBytes.{Appends, Consumes, Keeps}
 use Rattle.std.proofs.KnownBytes.{Appends-trans, Appends-kept, Consumes-trans, Consumes-kept}
 
--- a reader of which nothing was taken is as it was
+-- a reader from which nothing was read is unchanged
 pub kept_of : (a b : Option (List ℕ)) → Consumes a b [] → Keeps a b
 kept_of None b p = tt
 kept_of (Some x) None p = absurd p
@@ -18,19 +18,19 @@ kept_on a b c p q = kept_of a c (Consumes-kept a b c [] p q)
 pub taken_on : (a b c : Option (List ℕ)) (bs : List ℕ) → Consumes a b [] → Consumes b c bs → Consumes a c bs
 taken_on a b c bs p q = Consumes-trans a b c [] bs p q
 
--- some front of the bytes went out, and then more of the rest
+-- a prefix of the bytes was written, and then more of the rest
 pub front_more : (a b c : Option (List ℕ)) (bytes rest : List ℕ) (at n : ℕ) → rest ≡ drop at bytes
     → Appends a b (take at bytes) → Appends b c (take n rest) → Appends a c (take (at + n) bytes)
 front_more a b c bytes rest at n is p q =
     subst (Appends a c) (sym (take-add at n bytes))
     (Appends-trans a b c (take at bytes) (take n (drop at bytes)) p (subst (λ r. Appends b c (take n r)) is q))
 
--- all of them
+-- all of them were written
 pub front_all : (a b : Option (List ℕ)) (bytes : List ℕ) (at : ℕ) → length bytes ≤ at → Appends a b (take at bytes)
     → Appends a b bytes
 front_all a b bytes at le p = subst (Appends a b) (take_all at bytes le) p
 
--- what went out stays where the writer is flushed, whatever comes of it
+-- the bytes written stay written when the writer is flushed, whatever its result
 pub flushed : {A E : Type 0} (r : Result A E) (a b c : Option (List ℕ)) (bytes : List ℕ) → Appends a b bytes → Keeps b c
     → OnOk r (Appends a c bytes)
 flushed (Ok x) a b c bytes p q = Appends-kept a b c bytes p q

@@ -1,4 +1,4 @@
--- What a connection's contracts speak of.
+-- The definitions that the contracts of a connection use.
 pub mod Cause
 pub mod Link
 pub mod Seen

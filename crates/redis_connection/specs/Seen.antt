@@ -1,10 +1,10 @@
--- A connection's fields, as a contract sees them.
+-- The fields of a connection, as a contract sees them.
 use Rattle.std.specs.Prelude.{ℕ, List, ◌++◌, take, length, Option}
 use Rattle.redis_wire.specs.Next.{Held}
 use Rattle.redis_connection.specs.Link.{Link}
 
--- the first `unfed` bytes of the piece came in, and stand behind those that the stream holds, which may
--- be read in place; so many messages were passed over
+-- the first `unfed` bytes of the piece were received, and follow the bytes that the stream holds, which may
+-- be read in place; `passed` push messages were skipped
 abbrev pub seen : ℕ → Option (List ℕ) → Option (List ℕ) → Held → List ℕ → ℕ → Link
 seen passed written coming held piece unfed = record {
   written = written;

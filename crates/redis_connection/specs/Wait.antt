@@ -1,4 +1,4 @@
--- WAIT, and what its reply says.
+-- WAIT, and the meaning of its reply.
 use Rattle.std.specs.Prelude.{◌≡◌, ◌<◌, ◌≤◌, ℕ, List, [], ◌∷◌, codes, decimal, Result, Ok, Err}
 use Rattle.redis_connection.specs.Ask.{Asks, HasNoAnswer}
 use Rattle.redis_connection.specs.Link.{Link}
@@ -10,7 +10,7 @@ use Rattle.redis_connection.specs.declared.wait.WaitError.TheVariants.{NoReplica
 use Rattle.redis_resp.specs.Number.{unsigned_reading}
 use Rattle.redis_resp.specs.Refusal.{RefusesNumber}
 
--- why a WAIT is refused: the first error that holds
+-- why a WAIT is refused: the first error that applies
 abbrev pub IsNoWait : ℕ → ℕ → WaitError → Type 0
 IsNoWait replicas milliseconds NoReplicas = replicas ≡ 0
 IsNoWait replicas milliseconds NoTime = (0 < replicas) × (milliseconds ≡ 0)

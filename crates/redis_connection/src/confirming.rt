@@ -11,7 +11,7 @@ use std::io::{Read, Write};
 use thiserror::Error;
 
 impl Wait {
-    /// A WAIT for this number of replicas, for at most this number of milliseconds. Returns the first error that holds.
+    /// Returns a WAIT for these replicas and at most these milliseconds, or the first error that applies.
     pub fn new(replicas: u64, milliseconds: u64) -> Result<Wait, WaitError>
         ensures { IsMade replicas milliseconds result }
     {
@@ -58,7 +58,7 @@ impl From<AskError> for ConfirmError {
     }
 }
 
-/// Sends WAIT and takes its reply: Ok if the required number of replicas acknowledged all earlier writes of the
+/// Sends WAIT and receives its reply: Ok if the required number of replicas acknowledged all earlier writes of the
 /// connection.
 pub fn confirm<R: Read + Drop, W: Write + Drop>(
     alloc: Global,

@@ -18,16 +18,16 @@ use std::io;
 use std::io::{ErrorKind, Read, Write};
 use std::marker::Model;
 
-/// How many bytes are read at once.
+/// The number of bytes that are read at once.
 const PIECE: usize = 65_536;
 
 /// A connection to a server over a reader and a writer.
 ///
-/// A server that speaks RESP3 may push messages, which answer no command: of keys that changed, or of
-/// channels. They are passed over on the way to an answer and counted; `receive_any` gives them out.
+/// With RESP3 a server may send push messages, which are no reply to a command: of changed keys, or of
+/// channels. They are skipped before a reply and counted. `receive_any` returns them.
 ///
-/// A contract sees what its writer holds and what its reader has left, where these are known, what
-/// came in and was not given out, and how many messages were passed over.
+/// A contract sees what its writer holds and what its reader has left, if these are known. It also sees
+/// the bytes received and not consumed, and the number of push messages skipped.
 #[derive(Drop)]
 pub struct Connection<R: Read + Drop, W: Write + Drop> {
     reader: R,
@@ -52,7 +52,7 @@ impl<R: Read + Drop, W: Write + Drop> Model for Connection<R, W> {
 }
 
 impl<R: Read + Drop, W: Write + Drop> Connection<R, W> {
-    /// A connection on which nothing was sent or received yet.
+    /// Returns a connection on which nothing was sent or received yet.
     pub fn new(
         alloc: Global,
         reader: R,
@@ -90,8 +90,8 @@ impl<R: Read + Drop, W: Write + Drop> Connection<R, W> {
         Ok(())
     }
 
-    /// Sends a command. An `Err` is `NoArguments` where the command has none, and then nothing was
-    /// sent; it is `TooLong` only where an argument is of 2^32 bytes or more, or there are as many.
+    /// Sends a command. The error is `NoArguments` if the command has none, and then nothing was
+    /// sent. It is `TooLong` only if an argument has 2^32 bytes or more, or there are 2^32 arguments or more.
     pub fn send<T: ToRedisArgs>(
         &mut self,
         alloc: Global,
@@ -108,8 +108,8 @@ impl<R: Read + Drop, W: Write + Drop> Connection<R, W> {
         self.send_bytes(&bytes)
     }
 
-    /// Receives the next reply of any kind, a message that the server pushed too. An `Err` gives nothing
-    /// out, and what came in is held: after `Memory`, `Read` and `Closed` the call may be tried again.
+    /// Receives the next reply or push message. An `Err` consumes nothing, and the bytes received are held.
+    /// After `Memory`, `Read` and `Closed` the call may be repeated.
     pub fn receive_any(&mut self, alloc: Global) -> Result<Reply, ConnectionError>
         ensures ok { IfOk result (λ reply. Receives self.old self.new (answer reply)) }
         ensures err { OnErr result (Waits self.old self.new) }
@@ -126,8 +126,8 @@ impl<R: Read + Drop, W: Write + Drop> Connection<R, W> {
         )
     }
 
-    /// Receives the next answer. Messages that the server pushed before it are passed over and counted.
-    /// An `Err` is one that `receive_any` has.
+    /// Receives the next reply. Push messages of the server before it are skipped and counted.
+    /// Its errors are those of `receive_any`.
     pub fn receive(&mut self, alloc: Global) -> Result<Reply, ConnectionError>
         ensures ok { IfOk result (λ reply. ReceivesAnswer self.old self.new (answer reply)) }
         ensures err { OnErr result (AwaitsAnswer self.old self.new) }
@@ -145,7 +145,7 @@ impl<R: Read + Drop, W: Write + Drop> Connection<R, W> {
         Err(ConnectionError::Read(io::Error::from(ErrorKind::TimedOut)))
     }
 
-    /// How many bytes the next reply of any kind has at the head of what came in.
+    /// Returns the length of the next reply or push message, at the start of the bytes received.
     fn stand(&mut self, alloc: Global) -> Result<usize, ConnectionError>
         ensures ok { IfOk result (IsInPlace self.old self.new) }
         ensures err { OnErr result (Waits self.old self.new) }
@@ -162,10 +162,10 @@ impl<R: Read + Drop, W: Write + Drop> Connection<R, W> {
         )
     }
 
-    /// Receives the next answer in place, without building it: how many bytes it has at the head of what
-    /// came in. `received` shows them, and `give_out` gives them out; before that the same answer is
-    /// received again. Messages that the server pushed before it are passed over and counted. An `Err` is
-    /// one that `receive_any` has.
+    /// Receives the next reply in place, without building it, and returns its length at the start of the
+    /// bytes received. `received` returns them, and `give_out` consumes them; before that the same reply is
+    /// received again. Push messages of the server before it are skipped and counted. Its errors are those
+    /// of `receive_any`.
     pub fn receive_in_place(&mut self, alloc: Global) -> Result<usize, ConnectionError>
         ensures ok { IfOk result (IsAnswerInPlace self.old self.new) }
         ensures err { OnErr result (AwaitsAnswer self.old self.new) }
@@ -184,29 +184,29 @@ impl<R: Read + Drop, W: Write + Drop> Connection<R, W> {
         Err(ConnectionError::Read(io::Error::from(ErrorKind::TimedOut)))
     }
 
-    /// Counts a message that was passed over.
+    /// Counts a push message that was skipped.
     fn count_message(&mut self)
         ensures { self.new ≡ record self.old { passed = one_more self.old.passed } }
     {
         self.passed = self.passed.saturating_add(1);
     }
 
-    /// How many messages of the server were passed over so far; from 2^64 - 1 on they are not counted.
+    /// Returns the number of push messages that were skipped so far. It stays at 2^64 - 1 once it is there.
     pub fn passed(&self) -> u64
         ensures { result ≡ self.now.passed }
     {
         self.passed
     }
 
-    /// The limits of replies that come.
+    /// Returns the limits of received replies.
     pub fn limits(&self) -> Limits
         ensures { result ≡ self.now.held.limits }
     {
         self.replies.limits()
     }
 
-    /// The first `len` bytes that came in, or as many of them as may be read in place. Those of a reply
-    /// that was received in place may.
+    /// Returns the first `len` bytes received, or as many of them as may be read in place. A reply that was
+    /// received in place may be read so.
     pub fn received(&self, len: usize) -> &[u8]
         ensures within { len ≤ self.now.in_place → result.now ≡ take len self.now.held.bytes }
         ensures all { self.now.in_place ≤ len
@@ -215,8 +215,8 @@ impl<R: Read + Drop, W: Write + Drop> Connection<R, W> {
         front_of(self.replies.bytes(), len)
     }
 
-    /// Gives out the first `len` bytes that came in, or as many of them as may be read in place. Where
-    /// they are the reply that `receive_in_place` found, that reply was received.
+    /// Consumes the first `len` bytes received, or as many of them as may be read in place. If they are the
+    /// reply that `receive_in_place` found, that reply was received.
     pub fn give_out(&mut self, len: usize)
         ensures gives { GivesOut self.old self.new len }
         ensures receives { (before : Link) (a : Answer) → Stands before self.old len a
@@ -225,8 +225,8 @@ impl<R: Read + Drop, W: Write + Drop> Connection<R, W> {
         self.replies.give_out(len);
     }
 
-    /// Sends a command, and reads its answer as an `M`. Where the command has no arguments, nothing
-    /// is sent or received, and an `Err` says so: `ConnectionError::NoArguments`.
+    /// Sends a command, and reads its reply as an `M`. If the command has no arguments, nothing is sent
+    /// or received, and the error is `ConnectionError::NoArguments`.
     pub fn ask_as<M: FromRedisValue, T: ToRedisArgs>(
         &mut self,
         alloc: Global,
@@ -245,7 +245,7 @@ impl<R: Read + Drop, W: Write + Drop> Connection<R, W> {
     }
 }
 
-/// The first `len` bytes, or all where there are fewer.
+/// Returns the first `len` bytes, or all of them if there are fewer.
 fn front_of(bytes: &[u8], len: usize) -> &[u8]
     ensures { result.now ≡ take len bytes.now }
 {

@@ -1,4 +1,4 @@
-//! Why a command has no answer.
+//! The errors of a connection and of a command.
 ghost use Rattle.std.specs.Prelude.{◌≡◌};
 ghost use Rattle.redis_connection.specs.Cause.{failure_of, pack_failure_of, write_failure_of};
 ghost use Rattle.redis_connection.specs.declared.error.ConnectionError.TheVariants.{Memory};
@@ -12,25 +12,25 @@ use thiserror::Error;
 /// Why nothing was sent or received.
 #[derive(Debug, Drop, Error)]
 pub enum ConnectionError {
-    /// Out of memory. The call may be tried again.
+    /// Out of memory. The call may be repeated.
     #[error("out of memory")]
     Memory,
     /// The command is too long for the protocol, and nothing of it was sent.
     #[error("the command is too long for the protocol")]
     TooLong,
-    /// The command has no arguments, and nothing was sent: a server answers no such command.
+    /// The command has no arguments, and nothing was sent: a server sends no reply to such a command.
     #[error("a command of no arguments")]
     NoArguments,
-    /// The writer failed, and some front of the bytes was written.
+    /// The writer failed, and only a prefix of the bytes was written.
     #[error("cannot write to the server: {0}")]
     Write(io::Error),
-    /// The reader failed. What came in before is held.
+    /// The reader failed. The bytes received before are held.
     #[error("cannot read from the server: {0}")]
     Read(io::Error),
     /// The server closed the connection, and no whole reply is held.
     #[error("the server closed the connection")]
     Closed,
-    /// The server does not speak the protocol.
+    /// The bytes received break the protocol or its limits.
     #[error("the server does not speak the protocol: {0}")]
     Fault(Fault),
 }
@@ -85,19 +85,19 @@ impl<T: Drop> From<AllocFailed<T>> for ConnectionError {
     }
 }
 
-/// Why a command has no answer of the type asked for.
+/// Why a command has no reply of the requested type.
 #[derive(Debug, Drop, Error)]
 pub enum AskError {
-    /// The command was not sent, or no reply came.
+    /// The command was not sent, or no reply was received.
     #[error("{0}")]
     Connection(ConnectionError),
-    /// The server answered this error.
+    /// The server returned this error.
     #[error("the server answers {0}")]
     Server(ServerError),
-    /// The answer has no record of the type asked for, or memory was refused.
+    /// The reply has no record of the requested type, or an allocation failed.
     #[error("{0}")]
     Parsing(ParsingError),
-    /// The reply is no answer of a command, but a message that the server pushed.
+    /// A push message was received, which is no reply to a command.
     #[error("no answer of a command")]
     NotAnAnswer,
 }

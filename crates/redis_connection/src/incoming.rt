@@ -1,4 +1,4 @@
-//! Replies out of a reader.
+//! Receives replies from a reader.
 ghost use Rattle.std.specs.Prelude.{◌≡◌, ◌≢◌, ◌≤◌, ◌<◌, ℕ, None, Some, IfOk, IfErr, OnErr, length};
 ghost use Rattle.std.specs.Io.{ReadsAtMost};
 ghost use Rattle.std.specs.IoError.{error_kind};
@@ -15,7 +15,7 @@ use std::alloc::Global;
 use std::io;
 use std::io::{ErrorKind, Read};
 
-/// Reads once, and again where a signal interrupted it.
+/// Reads once, and again after a read that a signal interrupted.
 fn read_once<R: Read>(reader: &mut R, piece: &mut [u8]) -> io::Result<usize>
     ensures bound { ReadsAtMost result piece.new }
     ensures bytes { ReadConsumes (R.remaining reader.old) (R.remaining reader.new) result piece.new }
@@ -34,7 +34,7 @@ fn read_once<R: Read>(reader: &mut R, piece: &mut [u8]) -> io::Result<usize>
     Err(io::Error::from(ErrorKind::TimedOut))
 }
 
-/// What a read came to: so many bytes; `Closed` where there are none; or the reader's error.
+/// Returns the result of a read: the number of bytes, `Closed` if there are none, or the reader's error.
 fn read_len(read: io::Result<usize>) -> Result<usize, ConnectionError>
     ensures { result ≡ read_failure_of read }
 {
@@ -45,8 +45,8 @@ fn read_len(read: io::Result<usize>) -> Result<usize, ConnectionError>
     }
 }
 
-/// Takes more in, where no reply is held: the bytes of `piece` that are left, or else what the reader
-/// gives.
+/// Appends more bytes to `replies` if it holds no reply: the bytes of `piece` that are left, or else what
+/// the reader returns.
 fn take_in<R: Read>(
     reader: &mut R,
     replies: &mut ReplyStream,
@@ -75,8 +75,8 @@ fn take_in<R: Read>(
     Ok(())
 }
 
-/// The next reply. The first `unfed` bytes of `piece` came in and stand behind those of `replies`;
-/// so whatever goes wrong, nothing that came in is lost.
+/// Receives the next reply. The first `unfed` bytes of `piece` were received and follow those of `replies`,
+/// so no error loses bytes that were received.
 pub fn receive_from<R: Read>(
     alloc: Global,
     reader: &mut R,
@@ -108,7 +108,7 @@ pub fn receive_from<R: Read>(
     Err(ConnectionError::Read(io::Error::from(ErrorKind::TimedOut)))
 }
 
-/// How many bytes the next reply has at the head of what `replies` holds.
+/// Returns the length of the next reply, at the start of the bytes that `replies` holds.
 pub fn receive_in_place_from<R: Read>(
     alloc: Global,
     reader: &mut R,

@@ -1,9 +1,9 @@
-//! A connection to a server over any reader and any writer: a command goes out whole, and its
-//! answer comes back as the type that was asked for.
+//! A connection to a server over any reader and any writer: sends a whole command, and reads its
+//! reply as the requested type.
 //!
-//! It opens nothing: a socket, standard input and output, or bytes in memory serve alike. Nothing
-//! that came in is lost by an error, so each call may be tried again, unless the server does not
-//! speak the protocol.
+//! It opens nothing: the streams may be a socket, standard input and output, or bytes in memory. No
+//! error loses bytes that were received, so each call may be repeated, unless the server breaks the
+//! protocol or its limits.
 #![tactic(auto)]
 
 mod confirming;

@@ -1,12 +1,12 @@
-//! Bytes that go out whole, or some front of them.
+//! Writes all of the bytes, or after an error only a prefix of them.
 ghost use Rattle.std.specs.Prelude.{ℕ, OnOk, OnErr, take};
 ghost use Rattle.std.specs.Io.KnownBytes.{Appends};
 
 use std::io;
 use std::io::{ErrorKind, Write};
 
-/// Writes all of the bytes, however few the writer takes at once. After an `Err` it has some front
-/// of them.
+/// Writes all of the bytes, however few the writer accepts at once. After an `Err` it has only a
+/// prefix of them.
 fn write_whole<W: Write>(writer: &mut W, bytes: &[u8]) -> io::Result<()>
     ensures ok { OnOk result (Appends (W.contents writer.old) (W.contents writer.new) bytes.now) }
     ensures err { OnErr result ((n : ℕ) ×
@@ -30,7 +30,7 @@ fn write_whole<W: Write>(writer: &mut W, bytes: &[u8]) -> io::Result<()>
     Err(io::Error::from(ErrorKind::TimedOut))
 }
 
-/// Writes all of the bytes, and has the writer send them.
+/// Writes all of the bytes, and flushes the writer.
 pub fn write_out<W: Write>(writer: &mut W, bytes: &[u8]) -> io::Result<()>
     ensures ok { OnOk result (Appends (W.contents writer.old) (W.contents writer.new) bytes.now) }
     ensures err { OnErr result ((n : ℕ) ×

@@ -15,12 +15,12 @@ pub enum WaitError {
 }
 
 /// The command `WAIT replicas milliseconds`. The server returns the number of replicas that acknowledged all earlier
-/// writes of the connection, after at most this number of milliseconds. Fewer are not an error reply.
+/// writes of the connection, after at most this number of milliseconds. If fewer did, that is no error reply.
 #[derive(Clone, Copy, Debug, PartialEq, Eq)]
 pub struct Wait {
     /// The number of replicas.
     pub(crate) replicas: u64,
-    /// The most milliseconds to wait.
+    /// The maximum number of milliseconds to wait.
     pub(crate) milliseconds: u64,
     ghost some: { 0 < replicas },
 }

@@ -3,7 +3,7 @@ use Rattle.redis_connection.specs.Link.{Waits}
 use Rattle.redis_connection.specs.Seen.{seen}
 use Rattle.redis_connection.proofs.incoming.receive_from.Given as goal
 
--- what came in so far is held, and nothing was given out
+-- the bytes received so far are held, and nothing was consumed
 abbrev pub invariant-loop-turn : goal.invariant-loop-turn
 invariant-loop-turn g l = record {
   within : l.unfed ≤ length l.piece;

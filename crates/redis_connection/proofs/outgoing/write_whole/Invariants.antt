@@ -2,7 +2,7 @@ use Rattle.std.proofs.Common.{◌≤◌, length, take}
 use Rattle.std.specs.Io.KnownBytes.{Appends}
 use Rattle.redis_connection.proofs.outgoing.write_whole.Given as goal
 
--- some front of the bytes went out
+-- a prefix of the bytes was written
 abbrev pub invariant-loop-turn : goal.invariant-loop-turn
 invariant-loop-turn g l = record {
   within : l.at ≤ length l.bytes;

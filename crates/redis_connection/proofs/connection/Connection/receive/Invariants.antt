@@ -2,6 +2,6 @@ use Rattle.std.proofs.Common.{ℕ}
 use Rattle.redis_connection.specs.Passing.{Passes}
 use Rattle.redis_connection.proofs.connection.Connection.receive.Given as goal
 
--- messages alone were received so far
+-- only push messages were received so far
 abbrev pub invariant-loop-turn : goal.invariant-loop-turn
 invariant-loop-turn g l = (n : ℕ) × Passes n l.fn.self l.self
