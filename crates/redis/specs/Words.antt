@@ -1,5 +1,5 @@
--- The words of contracts, from the crates below: what a caller's clause names, it takes from here.
--- Where two crates have a word of one name, the settings of options are `..Settings` here.
+-- The words of contracts, re-exported from the crates below: the clauses of a caller take them from here.
+-- If two crates have a word of the same name, the settings of options are `..Settings` here.
 pub use Rattle.redis_args.specs.Clause.{clause, flag}
 pub use Rattle.redis_args.specs.FixedArgs.{AreEnds, pieces}
 pub use Rattle.redis_args.specs.Room.{HasRoom, LacksRoom, MayRefuse}

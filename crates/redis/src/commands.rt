@@ -1,4 +1,4 @@
-//! Whole commands, each with the type that its answer is read as.
+//! Whole commands, each with the type of its reply.
 pub use stream_commands::{
     AtLeastOne, ClaimArgs, Command, CountedIds, FieldsThen, JustIdIsSet, Streams, ToAnyFieldArgs,
     ToFieldArgs, Word, pair_fields, xack, xack_del, xadd, xadd_maxlen, xadd_options, xautoclaim,

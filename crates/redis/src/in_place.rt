@@ -1,5 +1,5 @@
-//! Replies that hold entries, read where they are in a server's bytes: nothing is copied, fields keep
-//! their order, and one that comes twice is there twice.
+//! Replies with entries, read in place from a server's bytes. Nothing is copied, and fields keep their
+//! order, repeated names included.
 pub use stream_in_place::{
     AutoClaimJustIdRef, AutoClaimOutcome, AutoClaimPlace, AutoClaimRef, Delivery, EntriesRef,
     EntryPlace, EntryRef, EntryRoom, EntryTables, EntryTape, FieldError, FieldPlace, FieldsRef,

@@ -1,4 +1,4 @@
-//! Laws: calls that do nothing or little, and whose contracts a proof may use after the call.
+//! Laws: calls that do little or nothing, whose contracts a proof may use after the call.
 pub use redis_resp::{
     copied_write_error, equal_bytes, equal_parsing_errors, equal_write_errors, unique_decimal,
 };

@@ -1,10 +1,10 @@
-//! The stream layer under one name: values, arguments, options, replies, commands, the codec, the
-//! readers of sentences, and the laws.
+//! The streams API under one name: values, arguments, options, replies, commands, the codec, the
+//! parsers of option arguments, and the laws.
 //!
-//! Only re-exports stand here. What the Rust crate `redis` has is under that crate's paths:
-//! `redis::Value`, `redis::streams::StreamReadReply`. What it does for streams by the methods of a
-//! connection is in `commands`, and between a connection and these values stands the codec, `wire`.
-//! The words of contracts are passed on by `Rattle.redis.specs.Words`.
+//! This crate has only re-exports. The items of the Rust crate `redis` are under that crate's paths:
+//! `redis::Value`, `redis::streams::StreamReadReply`. Its methods of a connection for streams are in
+//! `commands`. The codec between a connection and these values is `wire`.
+//! The words of contracts are re-exported by `Rattle.redis.specs.Words`.
 #![tactic(auto)]
 
 pub mod commands;

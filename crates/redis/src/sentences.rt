@@ -1,5 +1,5 @@
-//! What a server, a proxy or a log tool reads: the arguments of options back as settings, and lines
-//! of them.
+//! For a server, a proxy or a log tool: parses the arguments of options back into settings, and lines
+//! of such arguments.
 pub use stream_option_parsing::{
     AddParts, AutoClaimParts, ClaimParts, GroupNames, ReadParts, RunError, SentenceError,
     TrimParts, add_with, autoclaim_with, claim_with, read_add, read_add_parts, read_autoclaim,

@@ -1,4 +1,4 @@
-//! The bytes of the RESP protocol: replies that are read from them, and commands that are written.
+//! The bytes of the RESP protocol: decoding replies and encoding commands.
 pub use redis_wire::{
     Decoded, Fault, Found, GroupKind, Limits, Node, PackError, PackedCommand, Protocol, RedisError,
     Reply, ReplyError, ReplyStream, ServerError, WireError, append_answer, append_command,
