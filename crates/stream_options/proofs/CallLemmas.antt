@@ -1,4 +1,4 @@
--- What the order of calls means.
+-- The meaning of the order of calls.
 use Rattle.std.proofs.Common.{◌≡◌, ◌≢◌, ℕ, Bool, List, [], ◌∷◌, ◌++◌, Option, Some, None, true, refl, sym, ◌∙◌, ap, ◌⊎◌}
 use Rattle.std.proofs.Common.{inl, inr}
 use Rattle.std.specs.Prelude.{is_some}
@@ -37,14 +37,14 @@ or_there : {T : Type 0} (a b : Option T) → is_some a ≡ true → option_or a 
 or_there None b e = absurd cc
 or_there (Some x) b e = refl
 
--- what two lists of calls say, one behind the other
+-- the last value in two lists of calls, one after the other
 pub last_said-append : {C T : Type 0} (said : C → Option T) (cs ds : List C)
     → last_said said (cs ++ ds) ≡ option_or (last_said said ds) (last_said said cs)
 last_said-append said [] ds = sym (option_or_none (last_said said ds))
 last_said-append said (c ∷ cs) ds = ap (λ o. option_or o (said c)) (last_said-append said cs ds)
     ∙ option_or_assoc (last_said said ds) (last_said said cs) (said c)
 
--- two lists say the same, whatever stands before and after
+-- two lists give the same last value, whatever calls are before and after them
 same_said : {C T : Type 0} (said : C → Option T) (before xs ys after : List C) → last_said said xs ≡ last_said said ys
     → last_said said (before ++ (xs ++ after)) ≡ last_said said (before ++ (ys ++ after))
 same_said said before xs ys after e =
@@ -53,12 +53,12 @@ same_said said before xs ys after e =
     ∙ ap (option_or (last_said said after)) e ∙ sym (last_said-append said ys after))
     ∙ sym (last_said-append said before (ys ++ after))
 
--- a call speaks of the one setting that it names
+-- a call sets only the setting that it names
 abbrev pub Names : {S : Type 0} {V : S → Type 0} → ((s : S) → (t : S) × V t → Option (V s)) → Type 0
 Names {S = S} {V = V} said = (s : S) (c : (t : S) × V t)
     → ((is_some (said s c) ≡ true) × (c.0 ≡ s)) ⊎ ((said s c ≡ None) × (c.0 ≢ s))
 
--- of two that name one setting the last is heard
+-- of two calls that name the same setting the last one counts
 pair_wins : {S : Type 0} {V : S → Type 0} (said : (s : S) → (t : S) × V t → Option (V s)) → Names said
     → (s : S) (c d : (t : S) × V t) → c.0 ≡ d.0
     → last_said (said s) (c ∷ d ∷ []) ≡ last_said (said s) (d ∷ [])
@@ -70,7 +70,7 @@ pair_wins said names s c d e = elim (names s d) [
   ]
 ]
 
--- two that name different settings are heard in either order
+-- two calls that name different settings both count, in either order
 pair_swaps : {S : Type 0} {V : S → Type 0} (said : (s : S) → (t : S) × V t → Option (V s)) → Names said
     → (s : S) (c d : (t : S) × V t) → c.0 ≢ d.0
     → last_said (said s) (c ∷ d ∷ []) ≡ last_said (said s) (d ∷ c ∷ [])
@@ -217,9 +217,9 @@ read_commutes start before after c d e =
     let w = swaps read_said read_names before after c d e in
     rw (w read.group, w read.block, w read.count, w read.noack, w read.claim) refl
 
--- ---- one call more
+-- ---- one more call
 
--- the settings of an addition that these last values leave
+-- the settings of an addition with these last values
 abbrev add_of : Add → Option Bool → Option Policy → Option Idempotency → Option Strategy → Add
 add_of start n p i t = record {
   nomkstream = unwrap_or n start.nomkstream;
@@ -238,7 +238,7 @@ add_pushed start (add.policy, x) n p i t = refl
 add_pushed start (add.idempotency, x) n p i t = refl
 add_pushed start (add.trim, x) n p i t = refl
 
--- one call more on the options of an addition
+-- one more call on the options of an addition
 pub add_final_push : (start : Add) (calls : List AddCall) (c : AddCall)
     → final_add start (calls ++ c ∷ []) ≡ after_add (final_add start calls) c
 add_final_push start calls c =
@@ -252,7 +252,7 @@ add_final_push start calls c =
     (add_pushed start c (last_said (add_said add.nomkstream) calls) (last_said (add_said add.policy) calls)
     (last_said (add_said add.idempotency) calls) (last_said (add_said add.trim) calls))
 
--- the settings of a read that these last values leave
+-- the settings of a read with these last values
 abbrev read_of : Read → Option Group → Option ℕ → Option ℕ → Option Bool → Option ℕ → Read
 read_of start g b n a c = record {
   group = option_or g start.group;
@@ -272,7 +272,7 @@ read_pushed start (read.count, x) g b n a m = refl
 read_pushed start (read.noack, x) g b n a m = refl
 read_pushed start (read.claim, x) g b n a m = refl
 
--- one call more on the options of a read
+-- one more call on the options of a read
 pub read_final_push : (start : Read) (calls : List ReadCall) (c : ReadCall)
     → final_read start (calls ++ c ∷ []) ≡ after_read (final_read start calls) c
 read_final_push start calls c =

@@ -1,4 +1,4 @@
--- How a run of writes of kept arguments stops.
+-- How a series of writes of kept arguments stops.
 use Rattle.std.proofs.Common.{◌≡◌, ◌<◌, ℕ, List, [], ◌∷◌, ◌++◌, map, take, length, get_or, refl, sym, ◌∙◌, ap, subst}
 use Rattle.std.specs.Global.{Vec}
 use Rattle.std.specs.List.{flat_map}
@@ -10,7 +10,7 @@ flat_map-one : (xs : List (Vec ℕ)) → flat_map (λ arg. arg.items ∷ []) xs 
 flat_map-one [] = refl
 flat_map-one (x ∷ xs) = ap (λ args. x.items ∷ args) (flat_map-one xs)
 
--- the run wrote the first arguments, and stopped at the one at i
+-- the run wrote the first arguments, and stopped at the argument with index i
 pub stops_at_argument : {E : Type 0} (xs : List (Vec ℕ)) (i : ℕ)
     (x : Vec ℕ) {old mid new : List (List ℕ)} {may_refuse : List ℕ → E → Type 0} {e : E}
     → i < length xs → x ≡ get_or xs i x → mid ≡ old ++ map (λ arg. arg.items) (take i xs)

@@ -1,4 +1,4 @@
--- Parts of sentences that can be read back: the lemmas compose as the sentences do.
+-- Parts of arguments that can be read back: the lemmas compose as the arguments do.
 use Rattle.std.proofs.Common.{◌≡◌, ℕ, ◌<◌, ◌^◌, Bool, true, false, not, ◌&&◌, ◌||◌, cond, List, [], ◌∷◌, ◌++◌, decimal}
 use Rattle.std.proofs.Common.{Option, Some, None, refl, sym, ◌∙◌, subst, ap, append_assoc, append-nil, ◌⊎◌, inl, inr}
 use Rattle.std.specs.Prelude.{IfSome}
@@ -17,8 +17,8 @@ use Rattle.stream_options.specs.ReadBack.{seen, reading_as, either, one, argumen
 use Rattle.stream_options.specs.ReadBack.{optional, flag_clause, both}
 use Rattle.stream_options.specs.Words.{among, begins, IsUsize}
 
--- Reading is the inverse of writing: what was written is read again before any rest that begins
--- with none of the words, what is read was written, and what is written is empty or begins with one
+-- Reading is the inverse of writing: written arguments are read again before any rest that begins
+-- with none of the words, what is read was written, and the arguments are empty or begin with one
 -- of the words.
 pub record ReadsBack {T : Type 0} (Fits : T → Type 0) (write : T → List (List ℕ)) (words : List (List ℕ))
     (read : List (List ℕ) → Option (T × List (List ℕ))) : Type 0 where
@@ -31,7 +31,7 @@ pub record ReadsBack {T : Type 0} (Fits : T → Type 0) (write : T → List (Lis
 abbrev pub gives : {T : Type 0} → Option (T × List (List ℕ)) → T → List (List ℕ) → Type 0
 gives read x r = read ≡ Some (x, r)
 
--- so the written arguments and a free rest determine what was written, and the rest
+-- so the written arguments and a free rest determine the value that was written, and the rest
 pub told : {T : Type 0} (Fits : T → Type 0) (write : T → List (List ℕ)) (words : List (List ℕ))
     (read : List (List ℕ) → Option (T × List (List ℕ))) → ReadsBack Fits write words read
     → (x y : T) (r s : List (List ℕ)) → Fits x → Fits y → begins words r ≡ false → begins words s ≡ false
@@ -121,7 +121,7 @@ among_within (w ∷ ws) vs a p e =
       | false ↦ λ h. among_within ws vs a parts.1 e
     ] refl
 
--- what begins with none of the words begins with none of fewer
+-- arguments that begin with none of the words begin with none of fewer words
 pub free_within : (ws vs r : List (List ℕ)) → within ws vs ≡ true → begins vs r ≡ false → begins ws r ≡ false
 free_within ws vs [] p e = refl
 free_within ws vs (a ∷ r) p e = among_within ws vs a p e
@@ -228,7 +228,7 @@ optional_reads F f ws rf p strict = record {
 
 -- ---- a word and its argument
 
--- an argument is read as what is written
+-- an argument is read as the value that was written
 pub record ReadsArgument {T : Type 0} (Fits : T → Type 0) (write : T → List ℕ) (of : List ℕ → Option T) : Type 0 where
   pub again : (x : T) → Fits x → of (write x) ≡ Some x
   pub takes : (bytes : List ℕ) (x : T) → of bytes ≡ Some x → (bytes ≡ write x) × Fits x
@@ -338,7 +338,7 @@ text_reads = record {
       (g.1, subst IsUtf8 g.1 (IsUtf8-from_is_utf8 bytes g.0));
 }
 
--- ---- the same seen as another type
+-- ---- the same as another type
 
 pub seen_some : {T S : Type 0} (from : T → S) (z : Option (T × List (List ℕ))) (x : S) (r : List (List ℕ)) {P : Type 0}
     → gives (option_map (seen from) z) x r → ((t : T) → z ≡ Some (t, r) → from t ≡ x → P) → P
@@ -409,7 +409,7 @@ either_reads F f ws rf G g vs rg firsts p q strict ap_ in_ = record {
   ];
 }
 
--- ---- only what passes a test
+-- ---- only values that pass a test
 
 passes_some : {T : Type 0} (test : T → Bool) (o : Option T) (y : T) {P : Type 0}
     → option_and_then (if_passes test) o ≡ Some y → (o ≡ Some y → test y ≡ true → P) → P
@@ -446,7 +446,7 @@ begins_more : (ws vs x : List (List ℕ)) → within ws vs ≡ true → begins w
 begins_more ws vs [] p e = absurd cc
 begins_more ws vs (a ∷ x) p e = among_more ws vs a p e
 
--- the same with more words, and with its own word for what fits
+-- the same with more words, and with a predicate of its own for the values that fit
 pub whole : {T : Type 0} (F : T → Type 0) (f : T → List (List ℕ)) (ws : List (List ℕ))
     (rf : List (List ℕ) → Option (T × List (List ℕ))) → ReadsBack F f ws rf
     → (words : List (List ℕ)) → within ws words ≡ true → (Fit : T → Type 0) → ((x : T) → Fit x → F x)
@@ -457,20 +457,20 @@ whole F f ws rf p words in_ Fit into out = record {
   opens = λ x. elim (p.opens x) [ inl e ↦ inl e | inr e ↦ inr (begins_more ws words (f x) in_ e) ];
 }
 
--- what can be read back is determined by its sentence, which a free rest follows
+-- a value that can be read back is determined by its arguments, which a free rest follows
 pub determined : {T : Type 0} (Fit : T → Type 0) (f : T → List (List ℕ)) (words : List (List ℕ))
     (rf : List (List ℕ) → Option (T × List (List ℕ))) → ReadsBack Fit f words rf
     → Determines Fit f words Equal
 determined Fit f words rf p = told Fit f words rf p
 
--- and equal exactly where the sentences are
+-- and two values are equal exactly if their arguments are
 pub exact : {T : Type 0} (Fit : T → Type 0) (f : T → List (List ℕ)) (words : List (List ℕ))
     (rf : List (List ℕ) → Option (T × List (List ℕ))) → ReadsBack Fit f words rf
     → IsExact Fit f Equal
 exact Fit f words rf p a b fa fb =
     (λ e. ap f e, λ e. (told Fit f words rf p a b [] [] fa fb refl refl (ap (λ t. t ++ []) e)).0)
 
--- ---- an argument alone
+-- ---- one argument alone
 
 pub one_takes : {A V : Type 0} (make : A → V) (o : Option A) (rest : List (List ℕ)) (v : V)
     (r : List (List ℕ)) {P : Type 0} → gives (one make o rest) v r
@@ -493,9 +493,9 @@ argument_at_reads F write of words p strict = record {
   opens = λ x. inr (strict x);
 }
 
--- ---- what a reader of sentences needs
+-- ---- for the parsers of arguments
 
--- The same where what is read again may differ in settings that are not compared.
+-- The same if the value read again may differ in settings that are not compared.
 pub record ReadsAlike {T : Type 0} (Fits : T → Type 0) (write : T → List (List ℕ)) (words : List (List ℕ))
     (Alike : T → T → Type 0) (read : List (List ℕ) → Option (T × List (List ℕ))) : Type 0 where
   pub again : (x : T) (r : List (List ℕ)) → Fits x → begins words r ≡ false
@@ -503,7 +503,7 @@ pub record ReadsAlike {T : Type 0} (Fits : T → Type 0) (write : T → List (Li
   pub takes : (args : List (List ℕ)) (x : T) (r : List (List ℕ)) → read args ≡ Some (x, r)
       → (args ≡ write x ++ r) × Fits x
 
--- an inverse, where all settings are compared
+-- an inverse, if all settings are compared
 pub alike : {T : Type 0} {Fits : T → Type 0} {write : T → List (List ℕ)} {words : List (List ℕ)} {read : List (List ℕ)
     → Option (T × List (List ℕ))}
     → ReadsBack Fits write words read → ReadsAlike Fits write words Equal read

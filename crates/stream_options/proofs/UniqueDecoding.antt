@@ -1,4 +1,4 @@
--- The settings of each option type can be read back from their sentence, so the sentence determines
+-- The settings of each option type can be read back from their arguments, so the arguments determine
 -- them.
 use Rattle.std.proofs.Common.{◌≡◌, ℕ, ◌≤◌, Bool, true, false, cond, leb, ◌&&◌, ◌||◌, List, [], ◌∷◌, ◌++◌, codes}
 use Rattle.std.proofs.Common.{decimal, Option, Some, None, refl, sym, ◌∙◌, ap, subst, ◌⊎◌, inl, inr, arith, append-nil}
@@ -47,7 +47,7 @@ number word = argument_reads IsUsize decimal number_of word number_reads
 text : (word : List ℕ) → ReadsBack (λ o. IfSome o IsUtf8) (clause (word_text word)) (word ∷ []) (text_clause word)
 text word = argument_reads IsUtf8 (λ x. x) text_of word text_reads
 
--- one after the other, which are apart
+-- one after the other, with no word in common
 seq : {A B : Type 0} {F : A → Type 0} {f : A → List (List ℕ)} {ws : List (List ℕ)} {rf : List (List ℕ)
     → Option (A × List (List ℕ))}
     {G : B → Type 0} {g : B → List (List ℕ)} {vs : List (List ℕ)} {rg : List (List ℕ) → Option (B × List (List ℕ))}
@@ -200,7 +200,7 @@ policy_exact = sentences.exact _ _ _ _ policy_reads
 policy_clause_reads : ReadsBack (λ o. IfSome o Any) (clause policy_sentence) policy_words policy_clause
 policy_clause_reads = optional_reads _ _ _ _ policy_reads policy_begins
 
--- ---- giving back
+-- ---- negative acknowledgements
 
 nack_reads_word : ReadsArgument Any nack_word nack_of
 nack_reads_word = record {
@@ -342,7 +342,7 @@ bound_reads = record {
   opens = λ x. inr (bound_begins x);
 }
 
--- the words that stand in front of its clauses
+-- the words that its clauses begin with
 strategy_reads_back : ReadsBack (λ s. BoundFits s.bound × IfSome s.limit IsUsize) strategy_sentence
     (bound_words ++ codes "LIMIT" ∷ []) strategy_at
 strategy_reads_back = as_reads (λ s. (s.bound, s.limit)) strategy_with _ _ _ _
@@ -381,7 +381,7 @@ trim_exact = sentences.exact _ _ _ _ trim_reads
 
 -- ---- additions
 
--- the clause of a strategy reads back where a bound's word stands in front
+-- the clause of a strategy reads back if it begins with the word of a bound
 strategy_clause_reads : ReadsBack (λ o. IfSome o StrategyFits) (clause strategy_sentence) strategy_words
     (optional strategy_words strategy_at)
 strategy_clause_reads = optional_reads _ _ _ _ strategy_reads strategy_begins
@@ -454,7 +454,7 @@ read_reads : ReadsBack (CasesFit GroupedFits UngroupedFits)
     (read_words ++ codes "BLOCK" ∷ codes "COUNT" ∷ []) counted_at
 read_reads = either_reads _ _ _ _ _ _ _ _ (codes "GROUP" ∷ []) grouped_reads ungrouped_reads (λ _. refl) refl refl
 
--- what counts of the settings
+-- the settings that count
 abbrev counting : Option Group → Option ℕ → Option ℕ → Bool → Option ℕ → Grouped ⊎ Ungrouped
 counting (Some g) b c n l = inl (g, (b, (c, (n, l))))
 counting None b c n l = inr (b, c)
@@ -535,7 +535,7 @@ same_read a b h =
 pub read_exact : IsExact ReadFits read_sentence CountAlike
 read_exact a b fa fb = (same_read a b, λ e. (read_determined a b [] [] fa fb refl refl (ap (λ t. t ++ []) e)).0)
 
--- ---- for the readers of sentences
+-- ---- for the parsers of arguments
 
 counted_alike : (g : Option Group) (b c : Option ℕ) (n : Bool) (l : Option ℕ)
     → CountAlike (read_from g b c n l) (read_with (counting g b c n l))
@@ -554,7 +554,7 @@ counted_alike None b c n l = record {
   claim = λ h. absurd cc;
 }
 
--- what counts, as it is written
+-- the arguments of the settings that count
 counted_written : (x : Grouped ⊎ Ungrouped)
     → cases (λ g. read_sentence (grouped_with g)) ungrouped_sentence x ≡ read_sentence (read_with x)
 counted_written (inl g) = refl

@@ -1,4 +1,4 @@
--- What an entry is added with, as settings, and how it reads as arguments.
+-- The options of an addition, as settings and as arguments.
 use Rattle.std.specs.Prelude.{ℕ, Bool, false, List, ◌∷◌, ◌++◌, codes, Option, None, IfSome}
 use Rattle.redis_args.specs.Clause.{clause, flag}
 use Rattle.stream_options.specs.Idempotency.{Idempotency, idempotency_sentence, idempotency_words, IdempotencyFits}

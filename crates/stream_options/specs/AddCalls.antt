@@ -1,4 +1,4 @@
--- Calls on the options of an addition, and the settings that a list of them leaves.
+-- Calls on the options of an addition, and the settings after a list of them.
 use Rattle.std.specs.Prelude.{Bool, List, Option, Some, None}
 use Rattle.std.specs.Option.{option_or, unwrap_or}
 use Rattle.stream_options.specs.Add.{Add}
@@ -7,7 +7,7 @@ use Rattle.stream_options.specs.Idempotency.{Idempotency}
 use Rattle.stream_options.specs.Policy.{Policy}
 use Rattle.stream_options.specs.Trim.{Strategy}
 
--- the settings that calls name; a strategy is one with its limit, and both ways to recognize a
+-- the settings that calls name; a strategy with its limit is one setting, and both ways to detect a
 -- duplicate are one setting
 pub data AddSetting : Type 0 where
   nomkstream : AddSetting
@@ -26,7 +26,7 @@ AddValue trim = Strategy
 abbrev pub AddCall : Type 0
 AddCall = (setting : AddSetting) × AddValue setting
 
--- the value that a call gives the setting, where it names that setting
+-- the value that a call gives the setting, if it names that setting
 abbrev pub add_said : (setting : AddSetting) → AddCall → Option (AddValue setting)
 add_said nomkstream (nomkstream, wanted) = Some wanted
 add_said policy (policy, p) = Some p
@@ -34,7 +34,7 @@ add_said idempotency (idempotency, i) = Some i
 add_said trim (trim, s) = Some s
 add_said _ _ = None
 
--- the settings that the calls leave: each is that of the last call that names it, else as it stood
+-- the settings after the calls: each has the value of the last call that names it, or else its old value
 abbrev pub final_add : Add → List AddCall → Add
 final_add start calls = record {
   nomkstream = unwrap_or (last_said (add_said nomkstream) calls) start.nomkstream;
@@ -43,7 +43,7 @@ final_add start calls = record {
   trim = option_or (last_said (add_said trim) calls) start.trim;
 }
 
--- one call more: the one setting that it names has its value
+-- one more call: the setting that it names has its value
 abbrev pub after_add : Add → AddCall → Add
 after_add settings (nomkstream, wanted) = record settings { nomkstream = wanted }
 after_add settings (policy, p) = record settings { policy = Some p }

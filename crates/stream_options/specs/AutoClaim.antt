@@ -1,4 +1,4 @@
--- What an automatic claim is asked for, as settings, and how it reads as arguments.
+-- The options of an automatic claim, as settings and as arguments.
 use Rattle.std.specs.Prelude.{ℕ, Bool, false, List, [], ◌∷◌, ◌++◌, codes, Option, None, IfSome}
 use Rattle.redis_args.specs.Clause.{clause, word_number, flag}
 use Rattle.stream_options.specs.Words.{IsUsize}

@@ -1,4 +1,4 @@
--- What a claim is asked for, as settings, and how it reads as arguments.
+-- The options of a claim, as settings and as arguments.
 use Rattle.std.specs.Prelude.{ℕ, Bool, false, List, [], ◌∷◌, ◌++◌, codes, Option, None, IfSome}
 use Rattle.std.specs.Str.{IsUtf8}
 use Rattle.redis_args.specs.Clause.{clause, word_number, word_text, flag}

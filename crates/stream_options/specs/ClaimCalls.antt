@@ -1,4 +1,4 @@
--- Calls on the options of a claim, and the settings that a list of them leaves.
+-- Calls on the options of a claim, and the settings after a list of them.
 use Rattle.std.specs.Prelude.{ℕ, Bool, List, Option, Some, None}
 use Rattle.std.specs.Option.{option_or, unwrap_or}
 use Rattle.stream_options.specs.Calls.{last_said}
@@ -26,7 +26,7 @@ ClaimValue lastid = List ℕ
 abbrev pub ClaimCall : Type 0
 ClaimCall = (setting : ClaimSetting) × ClaimValue setting
 
--- the value that a call gives the setting, where it names that setting
+-- the value that a call gives the setting, if it names that setting
 abbrev pub claim_said : (setting : ClaimSetting) → ClaimCall → Option (ClaimValue setting)
 claim_said idle (idle, n) = Some n
 claim_said time (time, n) = Some n
@@ -36,7 +36,7 @@ claim_said justid (justid, wanted) = Some wanted
 claim_said lastid (lastid, id) = Some id
 claim_said _ _ = None
 
--- the settings that the calls leave: each is that of the last call that names it, else as it stood
+-- the settings after the calls: each has the value of the last call that names it, or else its old value
 abbrev pub final_claim : Claim → List ClaimCall → Claim
 final_claim start calls = record {
   idle = option_or (last_said (claim_said idle) calls) start.idle;

@@ -1,5 +1,5 @@
--- How long and how many ids a stream keeps to recognize duplicate entries, as settings, and how it
--- reads as arguments.
+-- How long and how many ids a stream keeps to detect duplicate entries, as settings and as
+-- arguments.
 use Rattle.std.specs.Prelude.{ℕ, ◌≤◌, ◌⊎◌, List, [], ◌∷◌, ◌++◌, codes, Option, IfSome, IsSome}
 use Rattle.redis_args.specs.Clause.{clause, word_number}
 
@@ -16,7 +16,7 @@ IsDuration n = (1 ≤ n) × (n ≤ 86400)
 abbrev pub IsMaxsize : ℕ → Type 0
 IsMaxsize n = (1 ≤ n) × (n ≤ 10000)
 
--- settings that the command takes: at least one, and each in its range
+-- settings that the command accepts: at least one, and each in its range
 pub record IsConfig (c : Config) : Type 0 where
   pub seconds : IfSome c.seconds IsDuration
   pub maxsize : IfSome c.maxsize IsMaxsize

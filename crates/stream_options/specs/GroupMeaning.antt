@@ -1,4 +1,4 @@
--- What the kept names of a group and its consumer mean: the arguments that they wrote.
+-- The meaning of the kept names of a group and its consumer: the arguments that they wrote.
 use Rattle.std.specs.Prelude.{map}
 use Rattle.stream_options.specs.Read.{Group, group_with}
 use Rattle.stream_options.specs.declared.options.group.Group as kept

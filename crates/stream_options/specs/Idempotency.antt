@@ -1,8 +1,8 @@
--- How a duplicate entry is recognized, as settings, and how it reads as arguments.
+-- How a duplicate entry is detected, as settings and as arguments.
 use Rattle.std.specs.Prelude.{ℕ, List, [], ◌∷◌, codes}
 use Rattle.std.specs.Str.{IsUtf8}
 
--- by a producer and an id of its own, or by a producer and what the entry holds
+-- by a producer and an id from it, or by a producer and the content of the entry
 pub data Idempotency : Type 0 where
   manual : List ℕ → List ℕ → Idempotency
   automatic : List ℕ → Idempotency

@@ -1,9 +1,9 @@
--- The most entries that a stream keeps.
+-- The maximum number of entries of a stream.
 use Rattle.std.specs.Prelude.{ℕ, List, [], ◌∷◌, codes, decimal}
 use Rattle.stream_options.specs.Trim.{Mode, mode_word, mode_words}
 use Rattle.stream_options.specs.Words.{IsUsize}
 
--- so many, by a mode
+-- the number of entries, and the mode
 pub record Maxlen : Type 0 where
   pub mode : Mode
   pub count : ℕ

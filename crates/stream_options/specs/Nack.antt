@@ -1,4 +1,4 @@
--- Why an entry is given back.
+-- Why an entry is negatively acknowledged.
 use Rattle.std.specs.Prelude.{ℕ, List, [], ◌∷◌, codes}
 
 -- the settings of `XNACK`: its mode

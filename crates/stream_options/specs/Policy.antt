@@ -1,4 +1,4 @@
--- What becomes of references to deleted entries.
+-- What is done with references to deleted entries.
 use Rattle.std.specs.Prelude.{ℕ, List, [], ◌∷◌, codes}
 
 -- a policy

@@ -1,10 +1,10 @@
--- What a read is asked for, as settings, and how it reads as arguments.
+-- The options of a read, as settings and as arguments.
 use Rattle.std.specs.Prelude.{◌≡◌, ℕ, Bool, false, List, [], ◌∷◌, ◌++◌, codes, length, Option, None, is_some, IfSome}
 use Rattle.std.specs.Prelude.{true, if◌then◌else◌}
 use Rattle.redis_args.specs.Clause.{clause, word_number, flag}
 use Rattle.stream_options.specs.Words.{IsUsize}
 
--- the arguments of a group's name and those of a consumer's
+-- the arguments of the name of a group and those of the name of a consumer
 pub record Group : Type 0 where
   pub group : List (List ℕ)
   pub consumer : List (List ℕ)
@@ -17,7 +17,7 @@ group_with group consumer = record { group = group; consumer = consumer }
 abbrev pub group_sentence : Group → List (List ℕ)
 group_sentence g = codes "GROUP" ∷ (g.group ++ g.consumer)
 
--- the settings of `XREAD` and, where a group is set, of `XREADGROUP`; `block` and `claim` in
+-- the settings of `XREAD` and, if a group is set, of `XREADGROUP`; `block` and `claim` in
 -- milliseconds
 pub record Read : Type 0 where
   pub group : Option Group
@@ -30,7 +30,7 @@ pub record Read : Type 0 where
 abbrev pub default_read : Read
 default_read = record { group = None; block = None; count = None; noack = false; claim = None }
 
--- `[GROUP g.. c..] [BLOCK n] [COUNT n]`, and then only where a group is set `[NOACK] [CLAIM n]`
+-- `[GROUP g.. c..] [BLOCK n] [COUNT n]`, and then only if a group is set `[NOACK] [CLAIM n]`
 abbrev pub read_sentence : Read → List (List ℕ)
 read_sentence r =
     clause group_sentence r.group
@@ -48,7 +48,7 @@ read_words = codes "GROUP" ∷ codes "BLOCK" ∷ codes "COUNT" ∷ codes "NOACK"
 abbrev pub IsSingle : Group → Type 0
 IsSingle g = (length g.group ≡ 1) × (length g.consumer ≡ 1)
 
--- numbers are in their ranges, and names single
+-- numbers are in their ranges, and each name is single
 pub record ReadFits (r : Read) : Type 0 where
   pub group : IfSome r.group IsSingle
   pub block : IfSome r.block IsUsize

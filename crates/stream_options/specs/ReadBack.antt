@@ -1,6 +1,6 @@
--- How arguments read back as settings: from the left, the settings and the arguments that are
--- left, or None. Whether these are the inverse of the sentences is proved, and no promise rests on
--- them.
+-- How arguments are read back as settings: reading from the left gives the settings and the arguments
+-- that are left, or None. It is proved that this is the inverse of writing, and no contract depends on
+-- it.
 use Rattle.std.specs.Prelude.{◌^◌, ◌⊎◌, ℕ, Bool, true, false, ◌&&◌, ◌||◌, nat_lt, nat_le, List, [], ◌∷◌, codes, decimal}
 use Rattle.std.specs.Prelude.{Option, Some, None, is_some, if◌then◌else◌}
 use Rattle.std.proofs.Common.{inl, inr}
@@ -21,7 +21,7 @@ use Rattle.stream_options.specs.Words.{begins}
 
 -- ---- arguments
 
--- the number that these bytes write as sentences do: with no sign and no leading zero, and in the
+-- the number of these bytes, in the form that is written: with no sign and no leading zero, and in the
 -- range of usize
 unfoldable pub number_of : List ℕ → Option ℕ
 number_of bytes = if bytes_eq bytes (decimal (digits_value 10 bytes)) && nat_lt (digits_value 10 bytes) (2 ^ 64)
@@ -40,30 +40,30 @@ abbrev pub policy_of : List ℕ → Option Policy
 policy_of arg = if bytes_eq arg (codes "KEEPREF") then Some keep_ref else if bytes_eq arg (codes "DELREF")
     then Some del_ref else if bytes_eq arg (codes "ACKED") then Some acked else None
 
--- why an entry is given back, of a word
+-- the reason of a negative acknowledgement, of a word
 abbrev pub nack_of : List ℕ → Option Nack
 nack_of arg = if bytes_eq arg (codes "SILENT") then Some silent else if bytes_eq arg (codes "FAIL") then Some fail
     else if bytes_eq arg (codes "FATAL") then Some fatal else None
 
 -- ---- ways to read
 
--- what is read from the left, and the arguments that are left
+-- the value read from the left, and the arguments that are left
 abbrev pub ReadsAs : Type 0 → Type 0
 ReadsAs T = List (List ℕ) → Option (T × List (List ℕ))
 
--- a value that is there, and what is left
+-- a value that is there, and the arguments that are left
 abbrev pub set : {T : Type 0} → T × List (List ℕ) → Option T × List (List ℕ)
 set x = (Some x.0, x.1)
 
--- no value, and all is left
+-- no value, and all arguments are left
 abbrev pub unset : {T : Type 0} → List (List ℕ) → Option T × List (List ℕ)
 unset args = (None, args)
 
--- a clause, where one of its words stands in front
+-- a clause, if the arguments begin with one of its words
 abbrev pub optional : {T : Type 0} → List (List ℕ) → ReadsAs T → ReadsAs (Option T)
 optional words read args = if begins words args then option_map set (read args) else Some (unset args)
 
--- the first argument, by of
+-- the first argument, by `of`
 abbrev pub valued : {T : Type 0} → (List ℕ → Option T) → ReadsAs (Option T)
 valued of [] = None
 valued of (arg ∷ rest) = option_map (λ x. set (x, rest)) (of arg)
@@ -86,11 +86,11 @@ abbrev pub flag_clause : List ℕ → ReadsAs Bool
 flag_clause word [] = Some (false, [])
 flag_clause word (arg ∷ rest) = if bytes_eq arg word then Some (true, rest) else Some (false, arg ∷ rest)
 
--- what is read beside what was read before
+-- the value read now, paired with the value read before
 abbrev pub beside : {A B : Type 0} → A → B × List (List ℕ) → (A × B) × List (List ℕ)
 beside a y = ((a, y.0), y.1)
 
--- what is read next
+-- the value that is read next
 abbrev pub followed : {A B : Type 0} → ReadsAs B → A × List (List ℕ) → Option ((A × B) × List (List ℕ))
 followed g x = option_map (beside x.0) (g x.1)
 
@@ -98,36 +98,36 @@ followed g x = option_map (beside x.0) (g x.1)
 abbrev pub both : {A B : Type 0} → ReadsAs A → ReadsAs B → ReadsAs (A × B)
 both f g args = option_and_then (followed g) (f args)
 
--- what is read, seen as something else
+-- a function applied to the value that was read
 abbrev pub seen : {T S : Type 0} → (T → S) → T × List (List ℕ) → S × List (List ℕ)
 seen from x = (from x.0, x.1)
 
--- a reading, seen as one of something else
+-- a reading followed by a function
 abbrev pub reading_as : {T S : Type 0} → (T → S) → ReadsAs T → ReadsAs S
 reading_as from read args = option_map (seen from) (read args)
 
--- one reading where a word stands in front, and else another
+-- one reading if the arguments begin with a word, and otherwise another
 abbrev pub either : {A B S : Type 0} → List (List ℕ) → (A → S) → ReadsAs A → (B → S) → ReadsAs B → ReadsAs S
 either words left f right g args = if begins words args then option_map (seen left) (f args)
     else option_map (seen right) (g args)
 
--- made of one value that was read
+-- built from one value that was read
 abbrev pub one : {A V : Type 0} → (A → V) → Option A → List (List ℕ) → Option (V × List (List ℕ))
 one make (Some a) rest = Some (make a, rest)
 one make None rest = None
 
--- made of two values that were read
+-- built from two values that were read
 abbrev pub two : {A B V : Type 0} → (A → B → V) → Option A → Option B → List (List ℕ) → Option (V × List (List ℕ))
 two make None p rest = None
 two make (Some a) None rest = None
 two make (Some a) (Some b) rest = Some (make a b, rest)
 
--- the first argument alone, by of
+-- the first argument alone, by `of`
 abbrev pub argument_at : {T : Type 0} → (List ℕ → Option T) → ReadsAs T
 argument_at of [] = None
 argument_at of (arg ∷ rest) = one (λ x. x) (of arg) rest
 
--- only what passes a test
+-- only a value that passes a test
 abbrev pub if_passes : {T : Type 0} → (T → Bool) → T → Option T
 if_passes test x = if test x then Some x else None
 
@@ -139,9 +139,9 @@ kept test of bytes = option_and_then (if_passes test) (of bytes)
 abbrev pub filtered : {T : Type 0} → (T → Bool) → ReadsAs T → ReadsAs T
 filtered test read args = option_and_then (if_passes (λ x. test x.0)) (read args)
 
--- ---- giving back
+-- ---- negative acknowledgements
 
--- the options of giving back
+-- the options of a negative acknowledgement
 abbrev pub nack_at : ReadsAs Nack
 nack_at = argument_at nack_of
 
@@ -263,7 +263,7 @@ autoclaim_at = reading_as autoclaim_with (both (number_clause (codes "COUNT")) (
 abbrev pub ClaimParts : Type 0
 ClaimParts = Option ℕ × (Option ℕ × (Option ℕ × (Bool × (Bool × Option (List ℕ)))))
 
--- a claim of them
+-- a claim with these settings
 abbrev pub claim_with : ClaimParts → Claim
 claim_with x =
     record { idle = x.0; time = x.1.0; retry = x.1.1.0; force = x.1.1.1.0; justid = x.1.1.1.1.0; lastid = x.1.1.1.1.1 }
@@ -288,11 +288,11 @@ group_at (w ∷ []) = None
 group_at (w ∷ g ∷ []) = None
 group_at (w ∷ g ∷ c ∷ rest) = if bytes_eq w (codes "GROUP") then Some (single_group g c, rest) else None
 
--- what counts without a group: block and count
+-- the settings that count without a group: block and count
 abbrev pub Ungrouped : Type 0
 Ungrouped = Option ℕ × Option ℕ
 
--- what counts with a group: all
+-- the settings that count with a group: all
 abbrev pub Grouped : Type 0
 Grouped = Group × (Option ℕ × (Option ℕ × (Bool × Option ℕ)))
 

@@ -1,4 +1,4 @@
--- Calls on the options of a read, and the settings that a list of them leaves.
+-- Calls on the options of a read, and the settings after a list of them.
 use Rattle.std.specs.Prelude.{ℕ, Bool, List, Option, Some, None}
 use Rattle.std.specs.Option.{option_or, unwrap_or}
 use Rattle.stream_options.specs.Calls.{last_said}
@@ -24,7 +24,7 @@ ReadValue claim = ℕ
 abbrev pub ReadCall : Type 0
 ReadCall = (setting : ReadSetting) × ReadValue setting
 
--- the value that a call gives the setting, where it names that setting
+-- the value that a call gives the setting, if it names that setting
 abbrev pub read_said : (setting : ReadSetting) → ReadCall → Option (ReadValue setting)
 read_said group (group, g) = Some g
 read_said block (block, n) = Some n
@@ -33,7 +33,7 @@ read_said noack (noack, wanted) = Some wanted
 read_said claim (claim, n) = Some n
 read_said _ _ = None
 
--- the settings that the calls leave: each is that of the last call that names it, else as it stood
+-- the settings after the calls: each has the value of the last call that names it, or else its old value
 abbrev pub final_read : Read → List ReadCall → Read
 final_read start calls = record {
   group = option_or (last_said (read_said group) calls) start.group;
@@ -43,7 +43,7 @@ final_read start calls = record {
   claim = option_or (last_said (read_said claim) calls) start.claim;
 }
 
--- one call more: the one setting that it names has its value
+-- one more call: the setting that it names has its value
 abbrev pub after_read : Read → ReadCall → Read
 after_read settings (group, g) = record settings { group = Some g }
 after_read settings (block, n) = record settings { block = Some n }

@@ -1,4 +1,4 @@
--- Calls on a strategy of trimming, and the settings that a list of them leaves.
+-- Calls on a strategy of trimming, and the settings after a list of them.
 use Rattle.std.specs.Prelude.{ℕ, List, Option, Some}
 use Rattle.std.specs.Option.{option_or}
 use Rattle.stream_options.specs.Calls.{last_said}
@@ -20,6 +20,6 @@ StrategyCall = (setting : StrategySetting) × StrategyValue setting
 abbrev pub strategy_said : (setting : StrategySetting) → StrategyCall → Option (StrategyValue setting)
 strategy_said limit (limit, n) = Some n
 
--- the settings that the calls leave: the limit is that of the last call, else as it stood
+-- the settings after the calls: the limit is that of the last call, or else its old value
 abbrev pub final_strategy : Strategy → List StrategyCall → Strategy
 final_strategy start calls = record start { limit = option_or (last_said (strategy_said limit) calls) start.limit }

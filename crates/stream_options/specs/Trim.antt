@@ -1,11 +1,11 @@
--- How a stream is trimmed, as settings, and how it reads as arguments.
+-- The options of trimming, as settings and as arguments.
 use Rattle.std.specs.Prelude.{ℕ, List, [], ◌∷◌, ◌++◌, codes, decimal, Option, None, IfSome}
 use Rattle.std.specs.Str.{IsUtf8}
 use Rattle.redis_args.specs.Clause.{clause, word_number}
 use Rattle.stream_options.specs.Policy.{Policy, policy_sentence, policy_words}
 use Rattle.stream_options.specs.Words.{IsUsize}
 
--- to the bound itself, or about so
+-- to exactly the bound, or approximately
 pub data Mode : Type 0 where
   exact : Mode
   approx : Mode
@@ -23,7 +23,7 @@ mode_sentence mode = mode_word mode ∷ []
 abbrev pub mode_words : List (List ℕ)
 mode_words = codes "=" ∷ codes "~" ∷ []
 
--- so many entries stay, or those from an id on
+-- the number of entries that are kept, or the id of the first one kept
 pub data Bound : Type 0 where
   max_len : Mode → ℕ → Bound
   min_id : Mode → List ℕ → Bound
@@ -38,7 +38,7 @@ abbrev pub BoundFits : Bound → Type 0
 BoundFits (max_len mode n) = IsUsize n
 BoundFits (min_id mode id) = IsUtf8 id
 
--- a bound, and how many entries one call removes at most
+-- a bound, and the maximum number of entries that one call removes
 pub record Strategy : Type 0 where
   pub bound : Bound
   pub limit : Option ℕ

@@ -1,4 +1,4 @@
--- Calls on the options of a trimming, and the settings that a list of them leaves.
+-- Calls on the options of a trimming, and the settings after a list of them.
 use Rattle.std.specs.Prelude.{ℕ, List, Option, Some, None}
 use Rattle.std.specs.Option.{option_or}
 use Rattle.stream_options.specs.Calls.{last_said}
@@ -19,13 +19,13 @@ TrimValue policy = Policy
 abbrev pub TrimCall : Type 0
 TrimCall = (setting : TrimSetting) × TrimValue setting
 
--- the value that a call gives the setting, where it names that setting
+-- the value that a call gives the setting, if it names that setting
 abbrev pub trim_said : (setting : TrimSetting) → TrimCall → Option (TrimValue setting)
 trim_said limit (limit, n) = Some n
 trim_said policy (policy, p) = Some p
 trim_said _ _ = None
 
--- the settings that the calls leave: each is that of the last call that names it, else as it stood
+-- the settings after the calls: each has the value of the last call that names it, or else its old value
 abbrev pub final_trim : Trim → List TrimCall → Trim
 final_trim start calls = record {
   strategy = record start.strategy { limit = option_or (last_said (trim_said limit) calls) start.strategy.limit };

@@ -1,4 +1,4 @@
--- The public enums as settings: texts by their bytes, and nothing of where they lie in memory.
+-- The public enums as settings: texts by their bytes, without their location in memory.
 use Rattle.std.specs.Prelude.{string_bytes}
 use Rattle.stream_options.specs.Idempotency.{Idempotency, manual, automatic}
 use Rattle.stream_options.specs.Maxlen.{Maxlen}
@@ -34,7 +34,7 @@ policy_of policy.KeepRef = keep_ref
 policy_of policy.DelRef = del_ref
 policy_of policy.Acked = acked
 
--- how a duplicate entry is recognized
+-- how a duplicate entry is detected
 abbrev pub idempotency_of : StreamIdempotencyMode → Idempotency
 idempotency_of (idempotency.Manual producer idempotent) = manual (string_bytes producer) (string_bytes idempotent)
 idempotency_of (idempotency.Automatic producer) = automatic (string_bytes producer)
@@ -44,7 +44,7 @@ abbrev pub maxlen_of : StreamMaxlen → Maxlen
 maxlen_of (maxlen.Equals n) = record { mode = exact; count = n }
 maxlen_of (maxlen.Approx n) = record { mode = approx; count = n }
 
--- the mode of giving back
+-- the mode of a negative acknowledgement
 abbrev pub nack_of : StreamNackMode → Nack
 nack_of nack.Silent = silent
 nack_of nack.Fail = fail

@@ -1,4 +1,4 @@
--- Fixed words, and what may follow a sentence.
+-- Fixed words, and the arguments that may follow those of settings.
 use Rattle.std.specs.Prelude.{◌≡◌, ◌<◌, ◌^◌, ℕ, Bool, false, ◌||◌, List, [], ◌∷◌}
 use Rattle.std.specs.Str.{bytes_eq}
 

@@ -1,7 +1,7 @@
-//! The laws of sentences, over the definitions alone: what the arguments of options determine, and
-//! what the order of calls means.
+//! The laws of the arguments of options, over the definitions alone: what they determine, and what
+//! the order of calls means.
 //!
-//! A *sentence* is the list of arguments that settings write. A *free rest* is no argument, or
+//! The *arguments* of settings are the list that they write. A *free rest* is no argument, or
 //! arguments the first of which is none of the fixed words of the type. Numbers are in the ranges of
 //! their types, and texts are UTF-8.
 ghost use Rattle.std.specs.Prelude.{◌≡◌, ◌↔◌, IsTrue, Ok};
@@ -27,8 +27,8 @@ ghost use Rattle.stream_options.specs.TrimCalls.{final_trim};
 use crate::options::{ConfigError, StreamDeletionPolicy, StreamMaxlen, StreamNackMode};
 use std::alloc::AllocError;
 
-/// The sentence of a `StreamMaxlen`, before any free rest, determines it and the rest. Equal
-/// settings are those with equal sentences.
+/// The arguments of a `StreamMaxlen`, before any free rest, determine it and the rest. Equal settings
+/// are those with equal arguments.
 #[tactic(auto, using(crate::proofs::UniqueDecoding::maxlen_law))]
 pub fn unique_maxlen()
     ensures determined { Determines MaxlenFits maxlen_sentence maxlen_words Equal }
@@ -36,74 +36,74 @@ pub fn unique_maxlen()
 {}
 
 /// The word of a `StreamTrimmingMode`, before any free rest, determines it and the rest. Equal
-/// settings are those with equal sentences.
+/// settings are those with equal words.
 #[tactic(auto, using(crate::proofs::UniqueDecoding::mode_law))]
 pub fn unique_mode()
     ensures determined { Determines Any mode_sentence mode_words Equal }
     ensures exact { IsExact Any mode_sentence Equal }
 {}
 
-/// The sentence of a `StreamTrimStrategy`, before any free rest, determines its settings and the
-/// rest. Settings are equal exactly where their sentences are.
+/// The arguments of a `StreamTrimStrategy`, before any free rest, determine its settings and the
+/// rest. Settings are equal exactly if their arguments are.
 #[tactic(auto, using(crate::proofs::UniqueDecoding::strategy_law))]
 pub fn unique_strategy()
     ensures determined { Determines StrategyFits strategy_sentence strategy_words Equal }
     ensures exact { IsExact StrategyFits strategy_sentence Equal }
 {}
 
-/// The sentence of `StreamTrimOptions`, before any free rest, determines their settings and the
-/// rest. Settings are equal exactly where their sentences are.
+/// The arguments of `StreamTrimOptions`, before any free rest, determine their settings and the
+/// rest. Settings are equal exactly if their arguments are.
 #[tactic(auto, using(crate::proofs::UniqueDecoding::trim_law))]
 pub fn unique_trim()
     ensures determined { Determines TrimFits trim_sentence trim_words Equal }
     ensures exact { IsExact TrimFits trim_sentence Equal }
 {}
 
-/// The sentence of a `StreamIdempotencyMode`, before any free rest, determines its ids and the
-/// rest. Settings are equal exactly where their sentences are.
+/// The arguments of a `StreamIdempotencyMode`, before any free rest, determine its ids and the
+/// rest. Settings are equal exactly if their arguments are.
 #[tactic(auto, using(crate::proofs::UniqueDecoding::idempotency_law))]
 pub fn unique_idempotency()
     ensures determined { Determines IdempotencyFits idempotency_sentence idempotency_words Equal }
     ensures exact { IsExact IdempotencyFits idempotency_sentence Equal }
 {}
 
-/// The sentence of `StreamConfigOptions`, before any free rest, determines their settings and the
+/// The arguments of `StreamConfigOptions`, before any free rest, determine their settings and the
 /// rest. Settings are in the ranges of the configuration, and at least one is set. Equal settings
-/// are those with equal sentences.
+/// are those with equal arguments.
 #[tactic(auto, using(crate::proofs::UniqueDecoding::config_law))]
 pub fn unique_config()
     ensures determined { Determines IsConfig config_sentence config_words Equal }
     ensures exact { IsExact IsConfig config_sentence Equal }
 {}
 
-/// The sentence of `StreamAddOptions`, before any free rest, determines their settings and the
-/// rest. Settings are equal exactly where their sentences are.
+/// The arguments of `StreamAddOptions`, before any free rest, determine their settings and the
+/// rest. Settings are equal exactly if their arguments are.
 #[tactic(auto, using(crate::proofs::UniqueDecoding::add_law))]
 pub fn unique_add()
     ensures determined { Determines AddFits add_sentence add_words Equal }
     ensures exact { IsExact AddFits add_sentence Equal }
 {}
 
-/// The sentence of `StreamAutoClaimOptions`, before any free rest, determines their settings and
-/// the rest. Settings are equal exactly where their sentences are.
+/// The arguments of `StreamAutoClaimOptions`, before any free rest, determine their settings and
+/// the rest. Settings are equal exactly if their arguments are.
 #[tactic(auto, using(crate::proofs::UniqueDecoding::autoclaim_law))]
 pub fn unique_autoclaim()
     ensures determined { Determines AutoClaimFits autoclaim_sentence autoclaim_words Equal }
     ensures exact { IsExact AutoClaimFits autoclaim_sentence Equal }
 {}
 
-/// The sentence of `StreamClaimOptions`, before any free rest, determines their settings and the
-/// rest. Settings are equal exactly where their sentences are.
+/// The arguments of `StreamClaimOptions`, before any free rest, determine their settings and the
+/// rest. Settings are equal exactly if their arguments are.
 #[tactic(auto, using(crate::proofs::UniqueDecoding::claim_law))]
 pub fn unique_claim()
     ensures determined { Determines ClaimFits claim_sentence claim_words Equal }
     ensures exact { IsExact ClaimFits claim_sentence Equal }
 {}
 
-/// The sentence of `StreamReadOptions` with single names, before any free rest, determines the
-/// settings that count and the rest: the group, the block and the count, and where a group is set
-/// noack and claim. The settings that count are equal exactly where the sentences are; equal ones
-/// give equal sentences also where names are not single.
+/// The arguments of `StreamReadOptions` with single names, before any free rest, determine the rest
+/// and the settings that count: the group, the block and the count, and if a group is set also noack
+/// and claim. The settings that count are equal exactly if the arguments are. Equal ones have equal
+/// arguments also if names are not single.
 #[tactic(auto, using(crate::proofs::UniqueDecoding::read_law))]
 pub fn unique_read()
     ensures determined { Determines ReadFits read_sentence read_words CountAlike }
@@ -112,7 +112,7 @@ pub fn unique_read()
 {}
 
 /// The word of a `StreamDeletionPolicy`, before any free rest, determines it and the rest. Equal
-/// settings are those with equal sentences.
+/// settings are those with equal words.
 #[tactic(auto, using(crate::proofs::UniqueDecoding::policy_law))]
 pub fn unique_policy()
     ensures determined { Determines Any policy_sentence policy_words Equal }
@@ -120,15 +120,15 @@ pub fn unique_policy()
 {}
 
 /// The word of `StreamNackOptions` and of a `StreamNackMode`, before any free rest, determines it
-/// and the rest. Settings are equal exactly where their sentences are.
+/// and the rest. Settings are equal exactly if their words are.
 #[tactic(auto, using(crate::proofs::UniqueDecoding::nack_law))]
 pub fn unique_nack()
     ensures determined { Determines Any nack_sentence nack_words Equal }
     ensures exact { IsExact Any nack_sentence Equal }
 {}
 
-/// Of two calls in a row that name one setting, leaving out the first changes no final setting,
-/// anywhere in a list of calls, on whatever options the list begins.
+/// Of two calls in a row that name one setting, removing the first changes no final setting,
+/// anywhere in a list of calls, whatever options the list starts from.
 ///
 /// A call is the pair of the setting that it names and its value: of `StreamTrimStrategy` the call
 /// `limit`; of `StreamTrimOptions` the calls `limit` and `set_deletion_policy`; of
@@ -147,10 +147,10 @@ pub fn last_call_wins()
     ensures read { LastCallWins final_read }
 {}
 
-/// Two neighbouring calls that name different settings may change places: no final setting changes,
-/// anywhere in a list of calls, on whatever options the list begins.
+/// Two adjacent calls that name different settings may be swapped: no final setting changes,
+/// anywhere in a list of calls, whatever options the list starts from.
 ///
-/// It speaks of the same calls as [`last_call_wins`]: those of `StreamTrimStrategy`, of which no two
+/// It applies to the same calls as [`last_call_wins`]: those of `StreamTrimStrategy`, of which no two
 /// name different settings, `StreamTrimOptions`, `StreamAddOptions`, `StreamConfigOptions`,
 /// `StreamAutoClaimOptions`, `StreamClaimOptions` and `StreamReadOptions`.
 #[tactic(auto, using(crate::proofs::CallLemmas::commute))]
@@ -164,42 +164,42 @@ pub fn setters_commute()
     ensures read { SettersCommute final_read }
 {}
 
-/// `==` holds of two `StreamMaxlen` exactly where they are the same. It takes no memory.
+/// `==` holds of two `StreamMaxlen` exactly if they are the same. It allocates no memory.
 pub fn equal_maxlens(a: StreamMaxlen, b: StreamMaxlen) -> bool
     ensures { IsTrue result ↔ (a ≡ b) }
 {
     a == b
 }
 
-/// `==` holds of two `StreamNackMode` exactly where they are the same. It takes no memory.
+/// `==` holds of two `StreamNackMode` exactly if they are the same. It allocates no memory.
 pub fn equal_nack_modes(a: StreamNackMode, b: StreamNackMode) -> bool
     ensures { IsTrue result ↔ (a ≡ b) }
 {
     a == b
 }
 
-/// `==` holds of two `ConfigError` exactly where they are the same. It takes no memory.
+/// `==` holds of two `ConfigError` exactly if they are the same. It allocates no memory.
 pub fn equal_config_errors(a: &ConfigError, b: &ConfigError) -> bool
     ensures { IsTrue result ↔ (a.now ≡ b.now) }
 {
     a == b
 }
 
-/// A `StreamMaxlen` is copied as it is. It takes no memory and is always Ok.
+/// Returns a copy of a `StreamMaxlen`, equal to it. It allocates no memory and is always Ok.
 pub fn copied_maxlen(maxlen: &StreamMaxlen) -> Result<StreamMaxlen, AllocError>
     ensures { result ≡ Ok maxlen.now }
 {
     maxlen.clone()
 }
 
-/// A `StreamNackMode` is copied as it is. It takes no memory and is always Ok.
+/// Returns a copy of a `StreamNackMode`, equal to it. It allocates no memory and is always Ok.
 pub fn copied_nack_mode(mode: &StreamNackMode) -> Result<StreamNackMode, AllocError>
     ensures { result ≡ Ok mode.now }
 {
     mode.clone()
 }
 
-/// A `StreamDeletionPolicy` is copied as it is. It takes no memory and is always Ok.
+/// Returns a copy of a `StreamDeletionPolicy`, equal to it. It allocates no memory and is always Ok.
 pub fn copied_policy(policy: &StreamDeletionPolicy) -> Result<StreamDeletionPolicy, AllocError>
     ensures { result ≡ Ok policy.now }
 {

@@ -5,7 +5,7 @@
 //! options.to_redis_args(alloc)?;                     // `MAXLEN`, `~`, `1000`, `LIMIT`, `50`
 //! ```
 //!
-//! A contract sees options as their settings, and what they write as the sentence of these.
+//! A contract sees options as their settings, and what they write as the arguments of these.
 #![tactic(auto)]
 
 pub mod laws;

@@ -1,4 +1,4 @@
-//! The option types, by the command that they belong to.
+//! The option types, one module for each command or part of one.
 
 mod add;
 mod autoclaim;

@@ -1,4 +1,4 @@
-//! How an entry is added.
+//! The options of `XADD`.
 ghost use Rattle.std.specs.Prelude.{◌≡◌, true, string_bytes};
 ghost use Rattle.stream_options.specs.Add.{default_add, add_sentence};
 ghost use Rattle.stream_options.specs.Idempotency.{manual, automatic};
@@ -11,7 +11,7 @@ use crate::options::trim::StreamTrimStrategy;
 use redis_args::{RedisWrite, ToRedisArgs, WriteError};
 use std::marker::Model;
 
-/// The options of `XADD`: `[NOMKSTREAM] [policy] [idempotency] [strategy]`, in this order
+/// The options of `XADD`: `[NOMKSTREAM] [policy] [idempotency] [strategy]`, written in this order
 /// whatever the order of the calls. The default has no setting, and writes no argument.
 #[derive(Debug, Drop)]
 pub struct StreamAddOptions {
@@ -50,7 +50,7 @@ impl Default for StreamAddOptions {
 }
 
 impl StreamAddOptions {
-    /// `NOMKSTREAM`: a stream that does not exist is not made.
+    /// `NOMKSTREAM`: a stream that does not exist is not created.
     pub fn nomkstream(mut self) -> Self
         ensures { result ≡ record self { nomkstream = true } }
     {
@@ -58,8 +58,8 @@ impl StreamAddOptions {
         self
     }
 
-    /// `MAXLEN` or `MINID`, and `LIMIT`: the stream is trimmed by this strategy, in place of any
-    /// before with its limit.
+    /// `MAXLEN` or `MINID`, and `LIMIT`: the stream is trimmed by this strategy. It replaces any
+    /// earlier strategy with its limit.
     pub fn trim(mut self, strategy: StreamTrimStrategy) -> Self
         ensures { result ≡ record self { trim = Some (strategy_of strategy) } }
     {
@@ -67,8 +67,8 @@ impl StreamAddOptions {
         self
     }
 
-    /// `KEEPREF`, `DELREF` or `ACKED`: what becomes of consumer groups' references to trimmed
-    /// entries, in place of any policy before.
+    /// `KEEPREF`, `DELREF` or `ACKED`: what is done with the references of consumer groups to trimmed
+    /// entries. It replaces any earlier policy.
     pub fn set_deletion_policy(mut self, deletion_policy: StreamDeletionPolicy) -> Self
         ensures { result ≡ record self { policy = Some (policy_of deletion_policy) } }
     {
@@ -76,8 +76,8 @@ impl StreamAddOptions {
         self
     }
 
-    /// `IDMP`: a duplicate entry is recognized by the id that its producer gives it, in place of any
-    /// `idmp` or `idmpauto` before.
+    /// `IDMP`: a duplicate entry is detected by the id that its producer gives it. It replaces any
+    /// earlier `idmp` or `idmpauto`.
     pub fn idmp(mut self, producer_id: String, idempotent_id: String) -> Self
         ensures { let mode = manual (string_bytes producer_id) (string_bytes idempotent_id) in
             result ≡ record self { idempotency = Some mode } }
@@ -89,8 +89,8 @@ impl StreamAddOptions {
         self
     }
 
-    /// `IDMPAUTO`: a duplicate entry is recognized by its producer and its content, in place of any
-    /// `idmp` or `idmpauto` before.
+    /// `IDMPAUTO`: a duplicate entry is detected by its producer and its content. It replaces any
+    /// earlier `idmp` or `idmpauto`.
     pub fn idmpauto(mut self, producer_id: String) -> Self
         ensures { result ≡ record self {
           idempotency = Some (automatic (string_bytes producer_id));

@@ -1,4 +1,4 @@
-//! How idle entries are claimed, whichever they are.
+//! The options of `XAUTOCLAIM`, which claims idle entries without naming them.
 ghost use Rattle.std.specs.Prelude.{◌≡◌, true};
 ghost use Rattle.stream_options.specs.AutoClaim.{default_autoclaim, autoclaim_sentence};
 
@@ -34,14 +34,14 @@ impl Default for StreamAutoClaimOptions {
 }
 
 impl StreamAutoClaimOptions {
-    /// True exactly where `JUSTID` is set: the reply then has the ids alone.
+    /// Returns whether `JUSTID` is set: the reply then has only ids.
     pub fn has_justid(&self) -> bool
         ensures { result ≡ self.now.justid }
     {
         self.justid
     }
 
-    /// `COUNT`: at most so many entries are claimed.
+    /// `COUNT`: at most `count` entries are claimed.
     pub fn count(mut self, count: usize) -> Self
         ensures { result ≡ record self { count = Some count } }
     {
@@ -49,7 +49,7 @@ impl StreamAutoClaimOptions {
         self
     }
 
-    /// `JUSTID`: the reply has the ids alone, and the claim is no delivery.
+    /// `JUSTID`: the reply has only ids, and the claim is not counted as a delivery.
     pub fn with_justid(mut self) -> Self
         ensures { result ≡ record self { justid = true } }
     {

@@ -1,4 +1,4 @@
-//! How entries are claimed by their ids.
+//! The options of `XCLAIM`, which claims entries by their ids.
 ghost use Rattle.std.specs.Prelude.{◌≡◌, true, string_bytes};
 ghost use Rattle.stream_options.specs.Claim.{default_claim, claim_sentence};
 
@@ -6,8 +6,8 @@ use crate::options::clause::{FlagClause, ValueClause};
 use redis_args::{RedisWrite, ToRedisArgs, WriteError};
 use std::marker::Model;
 
-/// The options of `XCLAIM`: `[IDLE n] [TIME n] [RETRYCOUNT n] [FORCE] [JUSTID] [LASTID id]`, in
-/// this order whatever the order of the calls. The default has no setting, and writes no argument.
+/// The options of `XCLAIM`: `[IDLE n] [TIME n] [RETRYCOUNT n] [FORCE] [JUSTID] [LASTID id]`, written
+/// in this order whatever the order of the calls. The default has no setting, and writes no argument.
 #[derive(Debug, Drop)]
 pub struct StreamClaimOptions {
     idle: Option<usize>,
@@ -50,14 +50,14 @@ impl Default for StreamClaimOptions {
 }
 
 impl StreamClaimOptions {
-    /// True exactly where `JUSTID` is set: the reply then has the ids alone.
+    /// Returns whether `JUSTID` is set: the reply then has only ids.
     pub fn has_justid(&self) -> bool
         ensures { result ≡ self.now.justid }
     {
         self.justid
     }
 
-    /// `IDLE`: the entries count as idle for so many milliseconds.
+    /// `IDLE`: sets the idle time of the entries, in milliseconds.
     pub fn idle(mut self, milliseconds: usize) -> Self
         ensures { result ≡ record self { idle = Some milliseconds } }
     {
@@ -65,7 +65,7 @@ impl StreamClaimOptions {
         self
     }
 
-    /// `TIME`: the entries count as last delivered so many milliseconds after the start of 1970.
+    /// `TIME`: sets the last delivery time of the entries, in milliseconds of Unix time.
     pub fn time(mut self, milliseconds: usize) -> Self
         ensures { result ≡ record self { time = Some milliseconds } }
     {
@@ -73,7 +73,7 @@ impl StreamClaimOptions {
         self
     }
 
-    /// `RETRYCOUNT`: the entries count as delivered so many times.
+    /// `RETRYCOUNT`: sets the delivery count of the entries.
     pub fn retry(mut self, count: usize) -> Self
         ensures { result ≡ record self { retry = Some count } }
     {
@@ -81,7 +81,7 @@ impl StreamClaimOptions {
         self
     }
 
-    /// `FORCE`: an entry that is pending for nobody is claimed too.
+    /// `FORCE`: an entry that is not pending for any consumer is claimed too.
     pub fn with_force(mut self) -> Self
         ensures { result ≡ record self { force = true } }
     {
@@ -89,7 +89,7 @@ impl StreamClaimOptions {
         self
     }
 
-    /// `JUSTID`: the reply has the ids alone, and the claim is no delivery.
+    /// `JUSTID`: the reply has only ids, and the claim is not counted as a delivery.
     pub fn with_justid(mut self) -> Self
         ensures { result ≡ record self { justid = true } }
     {
@@ -97,7 +97,7 @@ impl StreamClaimOptions {
         self
     }
 
-    /// `LASTID`: this is noted as the id of the entry that the group was delivered last.
+    /// `LASTID`: gives this id as the last delivered id of the group.
     pub fn with_lastid(mut self, lastid: String) -> Self
         ensures { result ≡ record self { lastid = Some (string_bytes lastid) } }
     {

@@ -1,10 +1,10 @@
-//! The parts of sentences, as values that can be written.
+//! The clauses of options, as values that can be written.
 ghost use Rattle.std.specs.Prelude.{◌∷◌};
 ghost use Rattle.redis_args.specs.Clause.{clause, flag};
 
 use redis_args::{RedisWrite, ToRedisArgs, WriteError};
 
-/// `[word value]`: the word and the arguments of the value, and nothing where none is set.
+/// `[word value]`: the word and the arguments of the value, or nothing if no value is set.
 #[derive(Drop)]
 pub(crate) struct ValueClause<'a, T>(pub &'a str, pub &'a Option<T>);
 
@@ -19,7 +19,7 @@ impl<'a, T: ToRedisArgs> ToRedisArgs for ValueClause<'a, T> {
     }
 }
 
-/// `[word]`: the word, and nothing where it is not wanted.
+/// `[word]`: the word if it is set, or nothing.
 #[derive(Drop)]
 pub(crate) struct FlagClause<'a>(pub &'a str, pub bool);
 

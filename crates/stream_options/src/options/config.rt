@@ -1,4 +1,4 @@
-//! How a stream recognizes duplicate entries.
+//! The options of `XCFGSET`: how a stream detects duplicate entries.
 ghost use Rattle.std.specs.Prelude.{◌≡◌, OkIff, IfOk, IfErr};
 ghost use Rattle.redis_args.specs.Writer.{Wrote};
 ghost use Rattle.stream_options.specs.Config.{IsDuration, IsMaxsize, IsConfig, config_sentence};
@@ -8,16 +8,16 @@ use redis_args::{RedisWrite, ToRedisArgs, WriteError};
 use std::marker::Model;
 use thiserror::Error;
 
-/// `IDMP-DURATION`: the shortest time, in seconds, that a stream can be told to keep an id.
+/// `IDMP-DURATION`: the shortest time, in seconds, that a stream can be set to keep an id.
 pub const IDMP_DURATION_MIN: u32 = 1;
-/// `IDMP-DURATION`: the longest time, in seconds, that a stream can be told to keep an id: a day.
+/// `IDMP-DURATION`: the longest time, in seconds, that a stream can be set to keep an id: a day.
 pub const IDMP_DURATION_MAX: u32 = 86400;
-/// `IDMP-MAXSIZE`: the fewest ids of a producer that a stream can be told to keep.
+/// `IDMP-MAXSIZE`: the fewest ids of a producer that a stream can be set to keep.
 pub const IDMP_MAXSIZE_MIN: u16 = 1;
-/// `IDMP-MAXSIZE`: the most ids of a producer that a stream can be told to keep.
+/// `IDMP-MAXSIZE`: the most ids of a producer that a stream can be set to keep.
 pub const IDMP_MAXSIZE_MAX: u16 = 10000;
 
-// Redis' documentation names these four numbers.
+// The Redis documentation gives these four numbers.
 const _: () = prove!(IDMP_DURATION_MIN == 1);
 
 const _: () = prove!(IDMP_DURATION_MAX == 86400);
@@ -59,7 +59,7 @@ impl Model for StreamConfigOptions {
 }
 
 impl StreamConfigOptions {
-    /// `IDMP-DURATION`: ids are kept for so many seconds. `Seconds` where that is not in 1..=86400.
+    /// `IDMP-DURATION`: ids are kept for `seconds`. The error is `Seconds` if it is not in 1..=86400.
     pub fn with_idempotency_seconds(seconds: u32) -> Result<Self, ConfigError>
         ensures ok { OkIff result (IsDuration seconds) (record {
           seconds = Some seconds;
@@ -73,8 +73,8 @@ impl StreamConfigOptions {
         })
     }
 
-    /// `IDMP-MAXSIZE`: the ids of so many entries are kept of each producer. `Maxsize` where that is
-    /// not in 1..=10000.
+    /// `IDMP-MAXSIZE`: the ids of `maxsize` entries are kept for each producer. The error is `Maxsize`
+    /// if it is not in 1..=10000.
     pub fn with_idempotency_maxsize(maxsize: u16) -> Result<Self, ConfigError>
         ensures ok { OkIff result (IsMaxsize maxsize) (record {
           seconds = None;
@@ -88,9 +88,9 @@ impl StreamConfigOptions {
         })
     }
 
-    /// `IDMP-DURATION`: ids are kept for so many seconds, in place of any duration before.
+    /// `IDMP-DURATION`: ids are kept for `seconds`. It replaces any earlier duration.
     ///
-    /// `Seconds` where that is not in 1..=86400; the options are then dropped.
+    /// The error is `Seconds` if it is not in 1..=86400; the options are then dropped.
     pub fn idempotency_seconds(mut self, seconds: u32) -> Result<Self, ConfigError>
         ensures ok { OkIff result (IsDuration seconds) (record self { seconds = Some seconds }) }
         ensures valid { IfOk result IsConfig }
@@ -100,10 +100,10 @@ impl StreamConfigOptions {
         Ok(self)
     }
 
-    /// `IDMP-MAXSIZE`: the ids of so many entries are kept of each producer, in place of any number
-    /// before.
+    /// `IDMP-MAXSIZE`: the ids of `maxsize` entries are kept for each producer. It replaces any earlier
+    /// number.
     ///
-    /// `Maxsize` where that is not in 1..=10000; the options are then dropped.
+    /// The error is `Maxsize` if it is not in 1..=10000; the options are then dropped.
     pub fn idempotency_maxsize(mut self, maxsize: u16) -> Result<Self, ConfigError>
         ensures ok { OkIff result (IsMaxsize maxsize) (record self { maxsize = Some maxsize }) }
         ensures valid { IfOk result IsConfig }
@@ -114,7 +114,7 @@ impl StreamConfigOptions {
     }
 }
 
-/// The seconds, where they are in their range.
+/// Returns the seconds if they are in range.
 fn seconds_in_range(seconds: u32) -> Result<u32, ConfigError>
     ensures ok { OkIff result (IsDuration seconds) seconds }
     ensures refused { IfErr result (λ error. error ≡ ConfigError.Seconds seconds) }
@@ -126,7 +126,7 @@ fn seconds_in_range(seconds: u32) -> Result<u32, ConfigError>
     }
 }
 
-/// The number of entries, where it is in its range.
+/// Returns the number of entries if it is in range.
 fn maxsize_in_range(maxsize: u16) -> Result<u16, ConfigError>
     ensures ok { OkIff result (IsMaxsize maxsize) maxsize }
     ensures refused { IfErr result (λ error. error ≡ ConfigError.Maxsize maxsize) }
@@ -141,7 +141,7 @@ fn maxsize_in_range(maxsize: u16) -> Result<u16, ConfigError>
 impl ToRedisArgs for StreamConfigOptions {
     ghost args = { config_sentence };
 
-    /// What is written is at least one setting, and each in its range.
+    /// At least one setting is written, and each is in its range.
     fn write_redis_args<W: RedisWrite>(&self, out: &mut W) -> Result<(), WriteError>
         ensures written { Wrote result (W.written out.old) (config_sentence self.now)
             (W.written out.new) (W.may_refuse out.new) }

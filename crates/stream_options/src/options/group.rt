@@ -6,7 +6,7 @@ ghost use Rattle.stream_options.specs.Read.{group_with, group_sentence};
 use redis_args::{RedisWrite, ToRedisArgs, WriteError};
 use std::alloc::{AllocError, Global};
 
-/// Arguments that were written once, kept to be written again.
+/// Arguments that were written once, and are kept to be written again.
 #[derive(Debug, Drop)]
 pub(crate) struct KeptArgs(Vec<Vec<u8>>);
 
@@ -21,7 +21,7 @@ impl ToRedisArgs for KeptArgs {
     }
 }
 
-/// The arguments of a group's name and those of a consumer's: `GROUP g.. c..`.
+/// The arguments of the name of a group and those of the name of a consumer: `GROUP g.. c..`.
 #[derive(Debug, Drop)]
 pub(crate) struct Group {
     group: KeptArgs,
@@ -29,7 +29,7 @@ pub(crate) struct Group {
 }
 
 impl Group {
-    /// All the arguments that both names write. It fails only out of memory.
+    /// Keeps all the arguments of both names. It fails only if it runs out of memory.
     pub(crate) fn new<GN: ToRedisArgs, CN: ToRedisArgs>(
         alloc: Global,
         group: &GN,

@@ -1,4 +1,4 @@
-//! How a duplicate entry is recognized.
+//! How a duplicate entry is detected.
 ghost use Rattle.std.specs.Prelude.{◌≡◌, IfOk};
 ghost use Rattle.stream_options.specs.Idempotency.{idempotency_sentence};
 ghost use Rattle.stream_options.specs.View.{idempotency_of};
@@ -6,7 +6,7 @@ ghost use Rattle.stream_options.specs.View.{idempotency_of};
 use redis_args::{RedisWrite, ToRedisArgs, WriteError};
 use std::alloc::{AllocError, Global};
 
-/// How a duplicate entry is recognized: `IDMP producer idempotent` or `IDMPAUTO producer` of
+/// How a duplicate entry is detected: `IDMP producer idempotent` or `IDMPAUTO producer` of
 /// `XADD`.
 #[derive(Debug, Drop)]
 pub enum StreamIdempotencyMode {
@@ -17,7 +17,7 @@ pub enum StreamIdempotencyMode {
         /// The id that the producer gives this one entry.
         idempotent_id: String,
     },
-    /// `IDMPAUTO`: by an id that the server makes of its content.
+    /// `IDMPAUTO`: by an id that the server derives from its content.
     Automatic {
         /// The producer of the entry.
         producer_id: String,
@@ -25,7 +25,7 @@ pub enum StreamIdempotencyMode {
 }
 
 impl StreamIdempotencyMode {
-    /// A copy with the same ids. It fails only out of memory.
+    /// Returns a copy with the same ids. It fails only if it runs out of memory.
     pub fn try_clone(&self, alloc: Global) -> Result<Self, AllocError>
         ensures { IfOk result (λ copy. idempotency_of copy ≡ idempotency_of self.now) }
     {

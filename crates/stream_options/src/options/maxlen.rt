@@ -5,12 +5,12 @@ ghost use Rattle.stream_options.specs.View.{maxlen_of};
 use crate::options::trim::StreamTrimmingMode;
 use redis_args::{RedisWrite, ToRedisArgs, WriteError};
 
-/// The most entries that a stream keeps: `MAXLEN = n` or `MAXLEN ~ n` of `XADD` and `XTRIM`.
+/// The maximum number of entries of a stream: `MAXLEN = n` or `MAXLEN ~ n` of `XADD` and `XTRIM`.
 #[derive(Clone, Copy, Debug, PartialEq, Eq)]
 pub enum StreamMaxlen {
-    /// `MAXLEN =`: exactly so many entries.
+    /// `MAXLEN =`: exactly this number of entries.
     Equals(usize),
-    /// `MAXLEN ~`: so many entries, or some more where that is cheaper.
+    /// `MAXLEN ~`: this number of entries, or some more if that is more efficient.
     Approx(usize),
 }
 

@@ -1,4 +1,4 @@
-//! How a consumer gives back entries that it did not handle.
+//! The options of `XNACK`, which returns entries that a consumer did not process.
 ghost use Rattle.std.specs.Prelude.{◌≡◌, refl};
 ghost use Rattle.stream_options.specs.Nack.{nack_sentence};
 ghost use Rattle.stream_options.specs.View.{nack_of};
@@ -6,14 +6,14 @@ ghost use Rattle.stream_options.specs.View.{nack_of};
 use redis_args::{RedisWrite, ToRedisArgs, ToSingleRedisArg, WriteError};
 use std::marker::Model;
 
-/// Why a consumer gives an entry back: the word `SILENT`, `FAIL` or `FATAL` of `XNACK`.
+/// Why a consumer returns an entry: the word `SILENT`, `FAIL` or `FATAL` of `XNACK`.
 #[derive(Clone, Copy, Debug, PartialEq, Eq)]
 pub enum StreamNackMode {
-    /// `SILENT`: it says nothing of the entry, and the delivery does not count.
+    /// `SILENT`: it reports no reason, and the delivery is not counted.
     Silent,
-    /// `FAIL`: handling it failed, and may be tried again.
+    /// `FAIL`: processing failed, and may be retried.
     Fail,
-    /// `FATAL`: it can't be handled.
+    /// `FATAL`: the entry cannot be processed.
     Fatal,
 }
 
@@ -49,7 +49,7 @@ impl Model for StreamNackOptions {
 }
 
 impl StreamNackOptions {
-    /// `SILENT`, `FAIL` or `FATAL`: options with this mode.
+    /// `SILENT`, `FAIL` or `FATAL`: returns options with this mode.
     pub fn new(mode: StreamNackMode) -> Self
         ensures { result ≡ nack_of mode }
     {

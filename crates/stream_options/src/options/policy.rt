@@ -1,4 +1,4 @@
-//! What becomes of references to an entry that is deleted.
+//! What is done with references to an entry that is deleted.
 ghost use Rattle.std.specs.Prelude.{◌≡◌, refl};
 ghost use Rattle.stream_options.specs.Policy.{policy_sentence};
 ghost use Rattle.stream_options.specs.View.{policy_of};
@@ -6,11 +6,11 @@ ghost use Rattle.stream_options.specs.declared.options.policy.StreamDeletionPoli
 
 use redis_args::{RedisWrite, ToRedisArgs, ToSingleRedisArg, WriteError};
 
-/// What becomes of the references that consumer groups hold to deleted entries: the word
+/// What is done with the references of consumer groups to deleted entries: the word
 /// `KEEPREF`, `DELREF` or `ACKED` of `XTRIM`, `XADD`, `XDELEX` and `XACKDEL`.
 #[derive(Clone, Debug, Drop)]
 pub enum StreamDeletionPolicy {
-    /// `KEEPREF`: the references stay.
+    /// `KEEPREF`: the references are kept.
     KeepRef,
     /// `DELREF`: the references are removed as well.
     DelRef,

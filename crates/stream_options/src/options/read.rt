@@ -1,4 +1,4 @@
-//! How streams are read.
+//! The options of `XREAD` and `XREADGROUP`.
 ghost use Rattle.std.specs.Prelude.{◌≡◌, true, is_none, IfOk};
 ghost use Rattle.stream_options.specs.Read.{group_with, default_read, read_sentence};
 
@@ -8,8 +8,8 @@ use redis_args::{RedisWrite, ToRedisArgs, WriteError};
 use std::alloc::{AllocError, Global};
 use std::marker::Model;
 
-/// The options of `XREAD` and, where a group is set, of `XREADGROUP`:
-/// `[GROUP g.. c..] [BLOCK n] [COUNT n]`, then only where a group is set `[NOACK] [CLAIM n]`.
+/// The options of `XREAD` and, if a group is set, of `XREADGROUP`:
+/// `[GROUP g.. c..] [BLOCK n] [COUNT n]`, then only if a group is set `[NOACK] [CLAIM n]`.
 ///
 /// The default has no setting, and writes no argument.
 #[derive(Debug, Drop)]
@@ -52,14 +52,14 @@ impl Default for StreamReadOptions {
 }
 
 impl StreamReadOptions {
-    /// True exactly where no group is set: such a read changes nothing on the server.
+    /// Returns whether no group is set: such a read changes nothing on the server.
     pub fn read_only(&self) -> bool
         ensures { result ≡ is_none self.now.group }
     {
         self.group.is_none()
     }
 
-    /// `NOACK`: what is read needs no acknowledgement. It counts only where a group is set.
+    /// `NOACK`: the entries read need no acknowledgement. It counts only if a group is set.
     pub fn noack(mut self) -> Self
         ensures { result ≡ record self { noack = true } }
     {
@@ -67,7 +67,7 @@ impl StreamReadOptions {
         self
     }
 
-    /// `BLOCK`: the read waits so many milliseconds for entries; 0 waits without end.
+    /// `BLOCK`: the read waits for entries for at most `milliseconds`; with 0 it waits forever.
     pub fn block(mut self, milliseconds: usize) -> Self
         ensures { result ≡ record self { block = Some milliseconds } }
     {
@@ -75,7 +75,7 @@ impl StreamReadOptions {
         self
     }
 
-    /// `COUNT`: at most so many entries are read of each stream.
+    /// `COUNT`: at most `count` entries of each stream are read.
     pub fn count(mut self, count: usize) -> Self
         ensures { result ≡ record self { count = Some count } }
     {
@@ -83,8 +83,8 @@ impl StreamReadOptions {
         self
     }
 
-    /// `CLAIM`: entries that are idle for so many milliseconds are claimed and read first. It counts
-    /// only where a group is set.
+    /// `CLAIM`: entries that are idle for `milliseconds` or more are claimed and read first. It counts
+    /// only if a group is set.
     pub fn claim(mut self, milliseconds: usize) -> Self
         ensures { result ≡ record self { claim = Some milliseconds } }
     {
@@ -92,10 +92,10 @@ impl StreamReadOptions {
         self
     }
 
-    /// `GROUP`: the streams are read for this consumer of this group, in place of any before. All
-    /// the arguments that each name writes are kept.
+    /// `GROUP`: the streams are read for this consumer of this group. It replaces any earlier group.
+    /// All the arguments of each name are kept.
     ///
-    /// It fails only out of memory; the options are then dropped.
+    /// It fails only if it runs out of memory; the options are then dropped.
     pub fn group<GN: ToRedisArgs + Drop, CN: ToRedisArgs + Drop>(
         mut self,
         alloc: Global,

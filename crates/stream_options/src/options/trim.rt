@@ -1,4 +1,4 @@
-//! How a stream is trimmed.
+//! The options of trimming.
 ghost use Rattle.std.specs.Prelude.{◌≡◌, [], ◌∷◌, string_bytes};
 ghost use Rattle.stream_options.specs.Trim.{max_len, min_id, unlimited, mode_word, strategy_sentence, trim_sentence};
 ghost use Rattle.stream_options.specs.View.{mode_of, strategy_of, policy_of};
@@ -11,9 +11,9 @@ use std::marker::Model;
 /// How exactly a stream is trimmed: the word `=` or `~`.
 #[derive(Debug, Drop)]
 pub enum StreamTrimmingMode {
-    /// `=`: to the bound itself.
+    /// `=`: to exactly the bound.
     Exact,
-    /// `~`: about to the bound, where that is cheaper.
+    /// `~`: to approximately the bound, if that is more efficient.
     Approx,
 }
 
@@ -28,33 +28,33 @@ impl ToRedisArgs for StreamTrimmingMode {
     }
 }
 
-/// What is trimmed: `MAXLEN mode n [LIMIT l]` or `MINID mode id [LIMIT l]` of `XTRIM` and `XADD`.
+/// How a stream is trimmed: `MAXLEN mode n [LIMIT l]` or `MINID mode id [LIMIT l]` of `XTRIM` and `XADD`.
 ///
-/// The last member is `LIMIT`: the most entries that one call removes.
+/// The last member is `LIMIT`: the maximum number of entries that one call removes.
 #[derive(Debug, Drop)]
 pub enum StreamTrimStrategy {
-    /// `MAXLEN`: how exactly, how many entries stay, the newest ones, and the limit.
+    /// `MAXLEN`: the mode, the number of entries to keep, the newest ones, and the limit.
     MaxLen(StreamTrimmingMode, usize, Option<usize>),
-    /// `MINID`: how exactly, the id below which entries go, and the limit.
+    /// `MINID`: the mode, the id below which entries are removed, and the limit.
     MinId(StreamTrimmingMode, String, Option<usize>),
 }
 
 impl StreamTrimStrategy {
-    /// `MAXLEN`: at most `max_entries` entries stay; there is no limit yet.
+    /// `MAXLEN`: at most `max_entries` entries are kept; no limit is set yet.
     pub fn maxlen(trim: StreamTrimmingMode, max_entries: usize) -> Self
         ensures { strategy_of result ≡ unlimited (max_len (mode_of trim) max_entries) }
     {
         StreamTrimStrategy::MaxLen(trim, max_entries, None)
     }
 
-    /// `MINID`: entries from `stream_id` on stay; there is no limit yet.
+    /// `MINID`: entries with ids from `stream_id` on are kept; no limit is set yet.
     pub fn minid(trim: StreamTrimmingMode, stream_id: String) -> Self
         ensures { strategy_of result ≡ unlimited (min_id (mode_of trim) (string_bytes stream_id)) }
     {
         StreamTrimStrategy::MinId(trim, stream_id, None)
     }
 
-    /// `LIMIT`: one call removes at most `limit` entries, in place of any limit before.
+    /// `LIMIT`: one call removes at most `limit` entries. It replaces any earlier limit.
     pub fn limit(self, limit: usize) -> Self
         ensures { strategy_of result ≡ record (strategy_of self) { limit = Some limit } }
     {
@@ -84,8 +84,8 @@ impl ToRedisArgs for StreamTrimStrategy {
     }
 }
 
-/// The options of `XTRIM`: `strategy [policy]`, and nothing else. The policy says what becomes of
-/// consumer groups' references to trimmed entries.
+/// The options of `XTRIM`: `strategy [policy]`, and nothing else. The policy says what is done with
+/// the references of consumer groups to trimmed entries.
 #[derive(Debug, Drop)]
 pub struct StreamTrimOptions {
     strategy: StreamTrimStrategy,
@@ -106,7 +106,7 @@ impl Model for StreamTrimOptions {
 }
 
 impl StreamTrimOptions {
-    /// `MAXLEN`: at most `max_entries` entries stay; no limit and no policy is set yet.
+    /// `MAXLEN`: at most `max_entries` entries are kept; no limit and no policy is set yet.
     pub fn maxlen(mode: StreamTrimmingMode, max_entries: usize) -> Self
         ensures strategy { result.strategy ≡ unlimited (max_len (mode_of mode) max_entries) }
         ensures policy { result.policy ≡ None }
@@ -117,7 +117,7 @@ impl StreamTrimOptions {
         }
     }
 
-    /// `MINID`: entries from `stream_id` on stay; no limit and no policy is set yet.
+    /// `MINID`: entries with ids from `stream_id` on are kept; no limit and no policy is set yet.
     pub fn minid(mode: StreamTrimmingMode, stream_id: String) -> Self
         ensures strategy { result.strategy
             ≡ unlimited (min_id (mode_of mode) (string_bytes stream_id)) }
@@ -129,7 +129,7 @@ impl StreamTrimOptions {
         }
     }
 
-    /// `LIMIT`: one call removes at most `limit` entries, in place of any limit before.
+    /// `LIMIT`: one call removes at most `limit` entries. It replaces any earlier limit.
     pub fn limit(mut self, limit: usize) -> Self
         ensures { result ≡ record self { strategy = record self.strategy { limit = Some limit } } }
     {
@@ -137,8 +137,8 @@ impl StreamTrimOptions {
         self
     }
 
-    /// `KEEPREF`, `DELREF` or `ACKED`: what becomes of consumer groups' references to trimmed
-    /// entries, in place of any policy before.
+    /// `KEEPREF`, `DELREF` or `ACKED`: what is done with the references of consumer groups to trimmed
+    /// entries. It replaces any earlier policy.
     pub fn set_deletion_policy(mut self, deletion_policy: StreamDeletionPolicy) -> Self
         ensures { result ≡ record self { policy = Some (policy_of deletion_policy) } }
     {
