@@ -1,5 +1,5 @@
-//! Laws: unequal numbers have unequal arguments, a writer of a fixed size refuses nothing that it has
-//! room for, and a derived `==` and a derived copy are exact.
+//! Laws: unequal numbers have unequal arguments, and a writer of a fixed size accepts all that it has
+//! room for. A derived `==` and a derived copy are exact.
 ghost use Rattle.std.specs.Prelude.{◌≡◌, ◌↔◌, ◌<◌, ◌^◌, ◌++◌, IsTrue, ℕ, ℤ, FitsSigned, decimal};
 ghost use Rattle.std.specs.Prelude.{IsOk, IfErr, Ok, OnOk};
 ghost use Rattle.std.specs.Fmt.{signed_decimal};

@@ -6,8 +6,8 @@
 //! let names: Vec<String> = from_redis_value(alloc, reply)?;        // or a `ParsingError`
 //! ```
 //!
-//! To add a type of your own, implement `ToRedisArgs` with the list of arguments of its values, or
-//! `FromRedisValue` with the records that its values are. It then works inside lists, options,
+//! To add a type of your own, implement `ToRedisArgs` with the arguments of its values. To read it,
+//! implement `FromRedisValue` with the records of its values. It then works inside lists, options,
 //! tuples and tables with no change here.
 #![tactic(auto)]
 

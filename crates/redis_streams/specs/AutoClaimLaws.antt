@@ -14,7 +14,7 @@ holds_nil item = is_nil (plain item)
 abbrev pub IsOneEntry : Tree → Type 0
 IsOneEntry item = IsSome (text_reading item) ⊎ ((pair : Tree × Tree) × (pairs_in item ≡ Some (pair ∷ [])))
 
--- If each item of an accepted claimed list is nil, one id or a row of one pair, entries are marked invalid exactly
+-- An accepted claimed list each item of which is nil, one id or a row of one pair: entries are marked invalid exactly
 -- if an item is nil.
 abbrev pub InvalidEntriesTellNil : Type 0
 InvalidEntriesTellNil = (t : Tree) (reply : AutoClaim) (parts : Parts) (items : List Tree)

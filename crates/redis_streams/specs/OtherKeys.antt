@@ -71,7 +71,7 @@ pub record HasOtherItem (IsMore : Tree → Tree → Type 0) (t more : Tree) : Ty
   pub more_items_are : items more ≡ Some (before ++ changed ∷ after)
   pub is_more : IsMore item changed
 
--- `more` has the pairs of `t`, with the value of one pair, whose key is the name, replaced by a value that is related
+-- `more` has the pairs of `t`, except that the value of one pair with this name is replaced by a value that is related
 -- to it by `IsMore`
 pub record HasOtherValue (name : List ℕ) (IsMore : Tree → Tree → Type 0) (t more : Tree) : Type 0 where
   pub before : List (Tree × Tree)

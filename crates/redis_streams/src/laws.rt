@@ -1,6 +1,6 @@
 //! Laws of the replies, each a function whose contract depends on the definitions alone.
 //!
-//! RESP2 and RESP3 spell a list of pairs in two ways, as an array of even length and as a map, and
+//! RESP2 and RESP3 spell a list of pairs in two ways: as an array of even length, and as a map. They spell
 //! a list as an array, a set or a map's pairs. The four laws of respelling give the positions in a
 //! reply where one may replace the other: both values then read as one record, or both as none.
 ghost use Rattle.std.specs.Prelude.{◌≡◌, ◌↔◌, IsTrue};
@@ -49,8 +49,8 @@ ghost use Rattle.stream_entries.specs.Rows.{rows_reading};
 use crate::status::{XAckDelStatusCode, XDelExStatusCode};
 pub use stream_entries::{copied_forms, equal_read_forms};
 
-/// The meaning of `invalid_entries`: if each item of the claimed list is nil, one id or a row of
-/// one pair, it is true exactly if an item is nil. It allocates no memory.
+/// The meaning of `invalid_entries` if each item of the claimed list is nil, one id or a row of
+/// one pair: it is true exactly if an item is nil. It allocates no memory.
 #[tactic(auto, using(crate::proofs::AutoClaimLawLemmas::invalid_entries))]
 pub fn invalid_entries_tell_nil()
     ensures { InvalidEntriesTellNil }
@@ -58,7 +58,7 @@ pub fn invalid_entries_tell_nil()
 
 /// Other keys are ignored: an additional pair, at any position, whose key is a text and none of the
 /// names read, does not change the reading. That holds of a stream, a stream with its producers, a
-/// consumer and a group in the replies of XINFO. It does nothing; its clauses are the law.
+/// consumer and a group in the replies of XINFO. The function does nothing; its clauses are the law.
 pub fn other_keys_change_nothing()
     ensures stream { OtherKeysChangeNothing stream_names stream_reading }
     ensures tracked { OtherKeysChangeNothing tracked_names tracked_reading }
@@ -76,8 +76,8 @@ pub fn other_keys_change_nothing_in_full()
     ensures consumer { OtherKeysChangeNothing full_consumer_names full_consumer_reading }
 {}
 
-/// A reply to XRANGE or XREVRANGE and a respelling of it, at the list of rows, the rows and the
-/// fields, read as one record or both as none. The relation holds of equal values, and in both
+/// A reply to XRANGE or XREVRANGE may be respelled at the list of rows, the rows and the
+/// fields: both then read as one record or both as none. The relation holds of equal values, and in both
 /// directions. It allocates no memory.
 #[tactic(auto, using(stream_entries::proofs::RespellingLemmas::range_laws))]
 pub fn respell_range()
@@ -94,7 +94,7 @@ pub fn respell_claim()
     ensures symmetric { IsSymmetric ClaimAlike }
 {}
 
-/// A reply to XREAD or XREADGROUP has one record in every spelling, at the list of rows, the rows,
+/// A reply to XREAD or XREADGROUP has one record in every spelling of the list of rows, the rows,
 /// the lists of entries and the fields. At the entries too, if the value has a standard record:
 /// an entry of the claim form is an array of four in every spelling. Both values then have the same standard
 /// record or both none, which is why the relation has no direction. The array of rows of RESP2 and the
@@ -108,7 +108,7 @@ pub fn respell_read()
     ensures protocols { ProtocolsAreAlike }
 {}
 
-/// A reply to XAUTOCLAIM has one record in every spelling, at the fields of claimed rows that are
+/// A reply to XAUTOCLAIM has one record in every spelling of the fields of claimed rows. The rows are
 /// arrays in both values, or maps in both, with no attribute around them. The law allocates no memory.
 #[tactic(auto, using(crate::proofs::AutoclaimRespellingLemmas::autoclaim_laws))]
 pub fn respell_autoclaim()
@@ -118,9 +118,9 @@ pub fn respell_autoclaim()
 {}
 
 /// A read has both a standard and a claim record exactly if its skeleton is readable and
-/// each entry is an array of four: a text, fields, a number and nil. Such an entry gives its id
-/// with the fields and its number's text without fields in the standard record (the second alone
-/// if the two texts are equal), and one delivered entry in the claim record. So the records differ
+/// each entry is an array of four: a text, fields, a number and nil. In the standard record such an
+/// entry gives its id with the fields, and its number's text without fields (the second alone if the
+/// two texts are equal). In the claim record it gives one delivered entry. So the records differ
 /// exactly if a list that a row's table keeps has an entry. It allocates no memory.
 #[tactic(auto, using(stream_entries::proofs::OverlapLemmas::overlap_laws))]
 pub fn overlap()

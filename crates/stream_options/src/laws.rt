@@ -127,7 +127,7 @@ pub fn unique_nack()
     ensures exact { IsExact Any nack_sentence Equal }
 {}
 
-/// Of two calls in a row that name one setting, removing the first changes no final setting,
+/// Of two calls in a row that name one setting, the first may be removed: no final setting changes,
 /// anywhere in a list of calls, whatever options the list starts from.
 ///
 /// A call is the pair of the setting that it names and its value: of `StreamTrimStrategy` the call

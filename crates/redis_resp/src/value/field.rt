@@ -11,7 +11,7 @@ use crate::value::from_value::FromRedisValue;
 use std::alloc::{AllocError, Global};
 use std::collections::HashMap;
 
-/// Returns the record that the field of this name reads as, or `None` if there is no such field or it
+/// Returns the record that the field of this name reads as. Returns `None` if there is no such field or it
 /// has no record of the type. It fails only if the field exists and may be refused with `Memory`.
 #[tactic(auto, using(crate::proofs::FieldLemmas::get_field))]
 pub fn field_of<T: FromRedisValue>(

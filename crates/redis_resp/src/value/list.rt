@@ -80,7 +80,7 @@ fn read_list<S: Source, T: FromRedisValue>(alloc: Global, v: S) -> Result<Vec<T>
 }
 
 /// Reads the items of an `Array` or a `Set` in order, the pairs of a `Map` as maps of their own, or
-/// nothing for `Nil`, each by the reading of `T`. Returns `NotList` for any other kind. Reading an
+/// nothing for `Nil`. Each is read by `T`. Returns `NotList` for any other kind. Reading an
 /// owned value moves its items. Reading a borrowed one copies only what the items' readings keep,
 /// and one pair of a map at a time.
 impl<T: FromRedisValue> FromRedisValue for Vec<T> {
