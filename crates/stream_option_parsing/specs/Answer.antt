@@ -1,4 +1,4 @@
--- What is answered to an input.
+-- The output for an input.
 use Rattle.std.specs.Prelude.{◌≡◌, ℕ, List, [], ◌∷◌, ◌++◌, codes, decimal, Option, Some, None, if◌then◌else◌}
 use Rattle.std.specs.Str.{bytes_eq}
 use Rattle.stream_options.specs.Add.{AddFits, add_sentence, add_words}
@@ -33,13 +33,13 @@ type_of word = if bytes_eq word (codes "trim") then Some trim
     else if bytes_eq word (codes "nack") then Some nack
     else None
 
--- what goes out for a line
+-- the reply to one line
 pub data Reply : Type 0 where
   unknown : Reply
   no : Reply
   ok : ℕ → Reply
 
--- the line that goes out
+-- the line that is written for it
 abbrev pub reply_text : Reply → List ℕ
 reply_text unknown = codes "unknown"
 reply_text no = codes "no"
@@ -66,7 +66,7 @@ IsReplyOfType claim = IsVerdict ClaimFits claim_sentence claim_words
 IsReplyOfType read = IsVerdict ReadFits read_sentence read_words
 IsReplyOfType nack = IsVerdict Any nack_sentence nack_words
 
--- the reply where a type is known, or none is
+-- the reply if a type is known, or if none is
 abbrev pub IsReplyOf : Option OptionType → List (List ℕ) → Reply → Type 0
 IsReplyOf None args reply = reply ≡ unknown
 IsReplyOf (Some type) args reply = IsReplyOfType type args reply
@@ -82,6 +82,6 @@ AnswersLines [] text = text ≡ []
 AnswersLines (line ∷ lines) text = (reply : Reply) × (rest : List ℕ) × IsReply (parts_of line) reply
     × (text ≡ reply_line reply ++ rest) × AnswersLines lines rest
 
--- the answer to an input
+-- the output for an input
 abbrev pub IsAnswer : List ℕ → List ℕ → Type 0
 IsAnswer input answer = AnswersLines (lines_of input) answer

@@ -1,4 +1,4 @@
--- What the Rust values of answering mean.
+-- What the Rust values of the replies mean.
 use Rattle.std.specs.Prelude.{ℕ, Result, Ok, Err}
 use Rattle.stream_option_parsing.specs.Answer as mathematics
 use Rattle.stream_option_parsing.specs.declared.answer.Reply.{Reply}
@@ -14,7 +14,7 @@ reply_of Unknown = mathematics.unknown
 reply_of No = mathematics.no
 reply_of (Count k) = mathematics.ok k
 
--- what is made of a reader's answer
+-- the reply for the result of a reader
 abbrev pub verdict_of : {T : Type 0} → Result (T × ℕ) SentenceError → Result Reply RunError
 verdict_of (Ok x) = Ok (Count x.1)
 verdict_of (Err sentence.NotASentence) = Ok No

@@ -2,12 +2,12 @@
 use denote.Ref.{Bor}
 use Rattle.std.specs.Prelude.{ℕ, ◌==◌, List, [], ◌∷◌, Option, Some, None, if◌then◌else◌}
 
--- a byte at the beginning of the first piece
+-- a byte prepended to the first piece
 abbrev pub onto : ℕ → List (List ℕ) → List (List ℕ)
 onto b [] = (b ∷ []) ∷ []
 onto b (piece ∷ pieces) = (b ∷ piece) ∷ pieces
 
--- the bytes, cut at each mark; what stands for the end is given
+-- the bytes, cut at each mark; the pieces at the end of the input are given
 abbrev pub pieces : ℕ → List (List ℕ) → List ℕ → List (List ℕ)
 pieces mark end [] = end
 pieces mark end (b ∷ bytes) = if b == mark then [] ∷ pieces mark end bytes else onto b (pieces mark end bytes)
@@ -22,17 +22,17 @@ parts_of = pieces 32 ([] ∷ [])
 
 -- ---- for the functions within
 
--- bytes at the beginning of the first piece
+-- bytes prepended to the first piece
 abbrev pub with_front : List ℕ → List (List ℕ) → List (List ℕ)
 with_front [] pieces = pieces
 with_front (b ∷ bytes) pieces = onto b (with_front bytes pieces)
 
--- the pieces by what stands before the first mark, and what stands behind it
+-- the pieces, by the bytes before the first mark and those after it
 abbrev pub pieces_from : ℕ → List (List ℕ) → List ℕ → Option (Bor (List ℕ)) → List (List ℕ)
 pieces_from mark end front None = with_front front end
 pieces_from mark end front (Some rest) = front ∷ pieces mark end rest.now
 
--- the parts that are left of a line
+-- the remaining parts of a line
 abbrev pub parts_left : Option (Bor (List ℕ)) → List (List ℕ)
 parts_left None = []
 parts_left (Some rest) = parts_of rest.now

@@ -1,4 +1,4 @@
--- What settings mean that are told one by one.
+-- What the settings mean that are given one by one.
 use Rattle.std.specs.Prelude.{string_bytes}
 use Rattle.std.specs.Option.{option_map}
 use Rattle.stream_options.specs.Add.{Add}

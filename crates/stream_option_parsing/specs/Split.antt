@@ -1,4 +1,4 @@
--- Splits of argument lists, and what a reader of sentences answers.
+-- Splits of argument lists, and what a reader of options returns.
 use Rattle.std.specs.Prelude.{◌≡◌, ◌≤◌, ℕ, List, map, length, take, drop, Option, None, Result, Ok, Err, Some}
 use Rattle.std.specs.Global.{Vec}
 use Rattle.stream_options.specs.ReadBack.{ReadsAs, reading_as, bound_at}
@@ -11,7 +11,7 @@ use Rattle.stream_option_parsing.specs.declared.error.SentenceError.TheVariants.
 abbrev pub arguments : List (Vec ℕ) → List (List ℕ)
 arguments args = map (λ arg. arg.items) args
 
--- a split: the first k arguments are the sentence of these settings, and what follows is a free
+-- a split: the first k arguments are those of these settings, and what follows is a free
 -- rest
 pub record IsSplit {T : Type 0} (Fits : T → Type 0) (sentence : T → List (List ℕ)) (words args : List (List ℕ))
     (settings : T) (k : ℕ) : Type 0 where
@@ -32,12 +32,12 @@ HasNoSplit {T = T} Fits sentence words args = (settings : T) (k : ℕ) → IsSpl
 
 -- ---- for the functions within
 
--- an error says that nothing is read, or that memory was refused
+-- an error means that nothing is read, or that memory was refused
 abbrev pub Fails : {Y : Type 0} → SentenceError → Option Y → Type 0
 Fails Memory read = Unit {0}
 Fails NotASentence read = read ≡ None
 
--- what a function answered, seen by view, is what is read, unless memory was refused
+-- the result of a function, seen by view, is what is read, unless memory was refused
 abbrev pub Gives : {X Y : Type 0} → (X → Y) → Result X SentenceError → Option Y → Type 0
 Gives view (Ok x) read = read ≡ Some (view x)
 Gives view (Err e) read = Fails e read

@@ -21,9 +21,9 @@ use stream_options::{
 /// The settings of `XADD` one by one: `[NOMKSTREAM] [policy] [idempotency] [strategy]`.
 #[derive(Debug, Drop)]
 pub struct AddParts {
-    /// Whether a stream that does not exist is not made.
+    /// Whether a stream that does not exist is not created.
     pub nomkstream: bool,
-    /// What becomes of the references that groups hold to trimmed entries.
+    /// What happens to the references that groups hold to trimmed entries.
     pub policy: Option<StreamDeletionPolicy>,
     /// How a duplicate entry is recognized.
     pub idempotency: Option<StreamIdempotencyMode>,
@@ -31,7 +31,7 @@ pub struct AddParts {
     pub strategy: Option<StreamTrimStrategy>,
 }
 
-/// The options of `XADD` with these settings. It takes no memory.
+/// Returns the options of `XADD` with these settings. It allocates no memory.
 pub fn add_with(parts: AddParts) -> StreamAddOptions
     ensures { result ≡ add_of parts }
 {
@@ -40,10 +40,10 @@ pub fn add_with(parts: AddParts) -> StreamAddOptions
     with_strategy(options, parts.strategy)
 }
 
-/// The options of `XADD` that the first arguments are the sentence of, and how many arguments that
-/// is: `[NOMKSTREAM] [policy] [idempotency] [strategy]`.
+/// Parses the options of `XADD` from the first arguments:
+/// `[NOMKSTREAM] [policy] [idempotency] [strategy]`. Returns them with the number of arguments parsed.
 ///
-/// `NotASentence` where there are none, or where what follows begins with a fixed word.
+/// Returns `NotASentence` if there are none, or if the rest begins with a fixed word.
 pub fn read_add(alloc: Global, args: &[Vec<u8>]) -> Result<(StreamAddOptions, usize), SentenceError>
     ensures split { let list = arguments args.now in IfOk result (λ x.
         IsOneSplit AddFits add_sentence add_words Equal list x.0 x.1) }
@@ -54,10 +54,10 @@ pub fn read_add(alloc: Global, args: &[Vec<u8>]) -> Result<(StreamAddOptions, us
     Ok((add_with(parts), count))
 }
 
-/// The settings of `XADD` that the first arguments are the sentence of, and how many arguments that
-/// is. `add_with` makes the options of them.
+/// Parses the settings of `XADD` from the first arguments. Returns them with the number of
+/// arguments parsed; `add_with` makes the options of them.
 ///
-/// `NotASentence` where there are none, or where what follows begins with a fixed word.
+/// Returns `NotASentence` if there are none, or if the rest begins with a fixed word.
 pub fn read_add_parts(alloc: Global, args: &[Vec<u8>]) -> Result<(AddParts, usize), SentenceError>
     ensures split { let list = arguments args.now in IfOk result (λ x.
         IsOneSplit AddFits add_sentence add_words Equal list (add_of x.0) x.1) }
@@ -84,7 +84,7 @@ pub fn read_add_parts(alloc: Global, args: &[Vec<u8>]) -> Result<(AddParts, usiz
     Ok((parts, args.len() - rest.len()))
 }
 
-/// The settings, and the arguments behind them.
+/// The settings, and the arguments after them.
 fn add_at(alloc: Global, args: &[Vec<u8>]) -> Result<(AddParts, &[Vec<u8>]), SentenceError>
     ensures { Gives (λ x. (add_of x.0, arguments x.1.now)) result (reading.add_at (arguments args.now)) }
 {
@@ -103,7 +103,7 @@ fn add_at(alloc: Global, args: &[Vec<u8>]) -> Result<(AddParts, &[Vec<u8>]), Sen
     Ok((parts, rest))
 }
 
-/// `[idempotency]`, and the arguments behind it.
+/// `[idempotency]`, and the arguments after it.
 fn idempotency_clause(
     alloc: Global,
     args: &[Vec<u8>],
@@ -118,7 +118,7 @@ fn idempotency_clause(
     Ok((Some(mode), rest))
 }
 
-/// `IDMP producer idempotent` or `IDMPAUTO producer`, and the arguments behind it.
+/// `IDMP producer idempotent` or `IDMPAUTO producer`, and the arguments after it.
 fn idempotency_at(
     alloc: Global,
     args: &[Vec<u8>],
@@ -156,7 +156,7 @@ fn idempotency_at(
     }
 }
 
-/// `[strategy]`, and the arguments behind it.
+/// `[strategy]`, and the arguments after it.
 fn strategy_clause(
     alloc: Global,
     args: &[Vec<u8>],
@@ -171,7 +171,7 @@ fn strategy_clause(
     Ok((Some(strategy), rest))
 }
 
-/// The flag, where it is wanted.
+/// Sets the flag if `wanted`.
 fn with_nomkstream(options: StreamAddOptions, wanted: bool) -> StreamAddOptions
     requires { options.nomkstream ≡ false }
     ensures { result ≡ record options { nomkstream = wanted } }
@@ -183,7 +183,7 @@ fn with_nomkstream(options: StreamAddOptions, wanted: bool) -> StreamAddOptions
     }
 }
 
-/// The policy, where there is one.
+/// Sets the policy, if there is one.
 fn with_policy(options: StreamAddOptions, policy: Option<StreamDeletionPolicy>) -> StreamAddOptions
     requires { options.policy ≡ None }
     ensures { result ≡ record options { policy = option_map policy_of policy } }
@@ -194,7 +194,7 @@ fn with_policy(options: StreamAddOptions, policy: Option<StreamDeletionPolicy>) 
     }
 }
 
-/// The way to recognize a duplicate, where there is one.
+/// Sets how a duplicate is recognized, if that is given.
 fn with_idempotency(
     options: StreamAddOptions,
     mode: Option<StreamIdempotencyMode>,
@@ -214,7 +214,7 @@ fn with_idempotency(
     }
 }
 
-/// The strategy, where there is one.
+/// Sets the strategy, if there is one.
 fn with_strategy(
     options: StreamAddOptions,
     strategy: Option<StreamTrimStrategy>,

@@ -1,4 +1,4 @@
-//! The answer to an input.
+//! The output for an input.
 ghost use Rattle.std.specs.Prelude.{◌≡◌, ◌<◌, ◌++◌, IfOk, OnOk, IfErr, length};
 ghost use Rattle.stream_option_parsing.specs.Answer.{IsAnswer, IsReply, IsReplyOf, type_of, reply_line};
 ghost use Rattle.stream_option_parsing.specs.AnswerMeaning.{reply_of, verdict_of};
@@ -18,7 +18,7 @@ use crate::trim::read_trim;
 use itoa::Buffer;
 use std::alloc::Global;
 
-/// What goes out for a line.
+/// The reply to one line.
 #[derive(Clone, Copy)]
 pub(crate) enum Reply {
     Unknown,
@@ -26,7 +26,7 @@ pub(crate) enum Reply {
     Count(usize),
 }
 
-/// The answer to all of the input. Memory is asked for only where there is some.
+/// Returns the output for the whole input. Memory is allocated only if the input has a byte.
 pub(crate) fn answer_to(alloc: Global, input: &[u8]) -> Result<Vec<u8>, RunError>
     ensures ok { IfOk result (λ answer. IsAnswer input.now answer.items) }
     ensures err { IfErr result (λ e. e ≡ RunError.Memory) }
@@ -43,7 +43,7 @@ pub(crate) fn answer_to(alloc: Global, input: &[u8]) -> Result<Vec<u8>, RunError
     Ok(answer)
 }
 
-/// The reply to a line.
+/// Returns the reply to a line.
 fn reply_to_line(alloc: Global, line: &[u8]) -> Result<Reply, RunError>
     ensures ok { IfOk result (λ reply. IsReply (parts_of line.now) (reply_of reply)) }
     ensures err { IfErr result (λ e. e ≡ RunError.Memory) }
@@ -52,7 +52,7 @@ fn reply_to_line(alloc: Global, line: &[u8]) -> Result<Reply, RunError>
     reply_to(alloc, word, &args)
 }
 
-/// The reply to the arguments behind a type word.
+/// Returns the reply to the arguments after a type word.
 fn reply_to(alloc: Global, word: &[u8], args: &[Vec<u8>]) -> Result<Reply, RunError>
     ensures ok { IfOk result (λ reply.
         IsReplyOf (type_of word.now) (arguments args.now) (reply_of reply)) }
@@ -77,7 +77,7 @@ fn reply_to(alloc: Global, word: &[u8], args: &[Vec<u8>]) -> Result<Reply, RunEr
     }
 }
 
-/// The reply where a reader answered this.
+/// Returns the reply for the result of a reader.
 fn reply_of_reading<T: Drop>(reading: Result<(T, usize), SentenceError>) -> Result<Reply, RunError>
     ensures { result ≡ verdict_of reading }
 {
@@ -88,7 +88,7 @@ fn reply_of_reading<T: Drop>(reading: Result<(T, usize), SentenceError>) -> Resu
     }
 }
 
-/// Writes the line of a reply behind the answer so far.
+/// Appends the line of a reply to the output.
 fn push_reply(answer: &mut Vec<u8>, reply: Reply) -> Result<(), RunError>
     ensures ok { OnOk result (answer.new.items ≡ answer.old.items ++ reply_line (reply_of reply)) }
     ensures err { IfErr result (λ e. e ≡ RunError.Memory) }

@@ -15,13 +15,13 @@ use stream_options::StreamAutoClaimOptions;
 /// The settings of `XAUTOCLAIM` one by one: `[COUNT n] [JUSTID]`.
 #[derive(Clone, Copy, Debug, PartialEq, Eq)]
 pub struct AutoClaimParts {
-    /// The most entries that are claimed.
+    /// The largest number of entries that are claimed.
     pub count: Option<usize>,
-    /// Whether the reply has the ids alone.
+    /// Whether the reply has only the ids.
     pub justid: bool,
 }
 
-/// The options of `XAUTOCLAIM` with these settings. It takes no memory.
+/// Returns the options of `XAUTOCLAIM` with these settings. It allocates no memory.
 pub fn autoclaim_with(parts: AutoClaimParts) -> StreamAutoClaimOptions
     ensures { result ≡ autoclaim_of parts }
 {
@@ -37,10 +37,10 @@ pub fn autoclaim_with(parts: AutoClaimParts) -> StreamAutoClaimOptions
     }
 }
 
-/// The options of `XAUTOCLAIM` that the first arguments are the sentence of, and how many arguments
-/// that is: `[COUNT n] [JUSTID]`. It takes no memory.
+/// Parses the options of `XAUTOCLAIM` from the first arguments: `[COUNT n] [JUSTID]`. Returns them
+/// with the number of arguments parsed. It allocates no memory.
 ///
-/// `NotASentence` where there are none, or where what follows begins with a fixed word.
+/// Returns `NotASentence` if there are none, or if the rest begins with a fixed word.
 pub fn read_autoclaim(args: &[Vec<u8>]) -> Result<(StreamAutoClaimOptions, usize), SentenceError>
     ensures split { let list = arguments args.now in IfOk result (λ x.
         IsOneSplit AutoClaimFits autoclaim_sentence autoclaim_words Equal list x.0 x.1) }
@@ -52,10 +52,10 @@ pub fn read_autoclaim(args: &[Vec<u8>]) -> Result<(StreamAutoClaimOptions, usize
     Ok((autoclaim_with(parts), count))
 }
 
-/// The settings of `XAUTOCLAIM` that the first arguments are the sentence of, and how many
-/// arguments that is. `autoclaim_with` makes the options of them. It takes no memory.
+/// Parses the settings of `XAUTOCLAIM` from the first arguments. Returns them with the number of
+/// arguments parsed; `autoclaim_with` makes the options of them. It allocates no memory.
 ///
-/// `NotASentence` where there are none, or where what follows begins with a fixed word.
+/// Returns `NotASentence` if there are none, or if the rest begins with a fixed word.
 pub fn read_autoclaim_parts(args: &[Vec<u8>]) -> Result<(AutoClaimParts, usize), SentenceError>
     ensures split { let list = arguments args.now in IfOk result (λ x.
         IsOneSplit AutoClaimFits autoclaim_sentence autoclaim_words Equal list (autoclaim_of x.0) x.1) }
@@ -72,7 +72,7 @@ pub fn read_autoclaim_parts(args: &[Vec<u8>]) -> Result<(AutoClaimParts, usize),
     Ok((parts, args.len() - rest.len()))
 }
 
-/// The settings, and the arguments behind them.
+/// The settings, and the arguments after them.
 fn autoclaim_at(args: &[Vec<u8>]) -> Option<(AutoClaimParts, &[Vec<u8>])>
     ensures { option_map (λ x. (autoclaim_of x.0, arguments x.1.now)) result
         ≡ reading.autoclaim_at (arguments args.now) }

@@ -17,21 +17,21 @@ use stream_options::StreamClaimOptions;
 /// `[IDLE n] [TIME n] [RETRYCOUNT n] [FORCE] [JUSTID] [LASTID id]`.
 #[derive(Debug, Drop)]
 pub struct ClaimParts {
-    /// The entries count as idle for so many milliseconds.
+    /// The idle time of the entries is set to this number of milliseconds.
     pub idle: Option<usize>,
-    /// They count as last delivered so many milliseconds after the start of 1970.
+    /// Their last delivery time is set to this Unix time in milliseconds.
     pub time: Option<usize>,
-    /// They count as delivered so often.
+    /// Their delivery count is set to this number.
     pub retry: Option<usize>,
-    /// Whether an entry that is pending for nobody is claimed too.
+    /// Whether an entry that is pending for no consumer is claimed too.
     pub force: bool,
-    /// Whether the reply has the ids alone.
+    /// Whether the reply has only the ids.
     pub justid: bool,
-    /// The id that is noted as the one that the group was delivered last.
+    /// The id that is set as the last one delivered to the group.
     pub lastid: Option<String>,
 }
 
-/// The options of `XCLAIM` with these settings. It takes no memory.
+/// Returns the options of `XCLAIM` with these settings. It allocates no memory.
 pub fn claim_with(parts: ClaimParts) -> StreamClaimOptions
     ensures { result ≡ claim_of parts }
 {
@@ -43,10 +43,10 @@ pub fn claim_with(parts: ClaimParts) -> StreamClaimOptions
     with_lastid(with_justid(options, parts.justid), parts.lastid)
 }
 
-/// The options of `XCLAIM` that the first arguments are the sentence of, and how many arguments
-/// that is: `[IDLE n] [TIME n] [RETRYCOUNT n] [FORCE] [JUSTID] [LASTID id]`.
+/// Parses the options of `XCLAIM` from the first arguments:
+/// `[IDLE n] [TIME n] [RETRYCOUNT n] [FORCE] [JUSTID] [LASTID id]`. Returns them with the number parsed.
 ///
-/// `NotASentence` where there are none, or where what follows begins with a fixed word.
+/// Returns `NotASentence` if there are none, or if the rest begins with a fixed word.
 pub fn read_claim(
     alloc: Global,
     args: &[Vec<u8>],
@@ -60,10 +60,10 @@ pub fn read_claim(
     Ok((claim_with(parts), count))
 }
 
-/// The settings of `XCLAIM` that the first arguments are the sentence of, and how many arguments
-/// that is. `claim_with` makes the options of them.
+/// Parses the settings of `XCLAIM` from the first arguments. Returns them with the number of
+/// arguments parsed; `claim_with` makes the options of them.
 ///
-/// `NotASentence` where there are none, or where what follows begins with a fixed word.
+/// Returns `NotASentence` if there are none, or if the rest begins with a fixed word.
 pub fn read_claim_parts(
     alloc: Global,
     args: &[Vec<u8>],
@@ -81,7 +81,7 @@ pub fn read_claim_parts(
     Ok((parts, args.len() - rest.len()))
 }
 
-/// The settings, and the arguments behind them.
+/// The settings, and the arguments after them.
 fn claim_at(alloc: Global, args: &[Vec<u8>]) -> Result<(ClaimParts, &[Vec<u8>]), SentenceError>
     ensures { Gives (λ x. (claim_of x.0, arguments x.1.now)) result
         (reading.claim_at (arguments args.now)) }
@@ -113,7 +113,7 @@ fn claim_at(alloc: Global, args: &[Vec<u8>]) -> Result<(ClaimParts, &[Vec<u8>]),
     Ok((parts, rest))
 }
 
-/// The idle time, where there is one.
+/// Sets the idle time, if there is one.
 fn with_idle(options: StreamClaimOptions, idle: Option<usize>) -> StreamClaimOptions
     requires { options.idle ≡ None }
     ensures { result ≡ record options { idle = idle } }
@@ -124,7 +124,7 @@ fn with_idle(options: StreamClaimOptions, idle: Option<usize>) -> StreamClaimOpt
     }
 }
 
-/// The time of delivery, where there is one.
+/// Sets the time of delivery, if there is one.
 fn with_time(options: StreamClaimOptions, time: Option<usize>) -> StreamClaimOptions
     requires { options.time ≡ None }
     ensures { result ≡ record options { time = time } }
@@ -135,7 +135,7 @@ fn with_time(options: StreamClaimOptions, time: Option<usize>) -> StreamClaimOpt
     }
 }
 
-/// The number of deliveries, where there is one.
+/// Sets the number of deliveries, if there is one.
 fn with_retry(options: StreamClaimOptions, retry: Option<usize>) -> StreamClaimOptions
     requires { options.retry ≡ None }
     ensures { result ≡ record options { retry = retry } }
@@ -146,7 +146,7 @@ fn with_retry(options: StreamClaimOptions, retry: Option<usize>) -> StreamClaimO
     }
 }
 
-/// The flag, where it is wanted.
+/// Sets the flag if `wanted`.
 fn with_force(options: StreamClaimOptions, wanted: bool) -> StreamClaimOptions
     requires { options.force ≡ false }
     ensures { result ≡ record options { force = wanted } }
@@ -158,7 +158,7 @@ fn with_force(options: StreamClaimOptions, wanted: bool) -> StreamClaimOptions
     }
 }
 
-/// The flag, where it is wanted.
+/// Sets the flag if `wanted`.
 fn with_justid(options: StreamClaimOptions, wanted: bool) -> StreamClaimOptions
     requires { options.justid ≡ false }
     ensures { result ≡ record options { justid = wanted } }
@@ -170,7 +170,7 @@ fn with_justid(options: StreamClaimOptions, wanted: bool) -> StreamClaimOptions
     }
 }
 
-/// The id, where there is one.
+/// Sets the last id, if there is one.
 fn with_lastid(options: StreamClaimOptions, lastid: Option<String>) -> StreamClaimOptions
     requires { options.lastid ≡ None }
     ensures { result ≡ record options { lastid = option_map string_bytes lastid } }

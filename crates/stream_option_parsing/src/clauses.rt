@@ -1,4 +1,4 @@
-//! Clauses of sentences: a word, and what it names.
+//! Clauses of the arguments: a keyword and its value.
 ghost use Rattle.std.specs.Prelude.{◌≡◌, None, IfErr, string_bytes};
 ghost use Rattle.std.specs.Option.{option_map};
 ghost use Rattle.stream_options.specs.ReadBack as reading;
@@ -8,7 +8,7 @@ use crate::error::SentenceError;
 use crate::values::{number_in, text_in};
 use std::alloc::Global;
 
-/// `[word n]`, and the arguments behind it; None where no number follows the word.
+/// `[word n]`, and the arguments after it; `None` if no number follows the word.
 pub(crate) fn number_clause<'a>(
     word: &str,
     args: &'a [Vec<u8>],
@@ -28,7 +28,7 @@ pub(crate) fn number_clause<'a>(
     }
 }
 
-/// `[word]`, and the arguments behind it.
+/// `[word]`, and the arguments after it.
 pub(crate) fn flag_clause<'a>(word: &str, args: &'a [Vec<u8>]) -> Option<(bool, &'a [Vec<u8>])>
     ensures { option_map (λ x. (x.0, arguments x.1.now)) result
         ≡ reading.flag_clause word.now (arguments args.now) }
@@ -39,7 +39,7 @@ pub(crate) fn flag_clause<'a>(word: &str, args: &'a [Vec<u8>]) -> Option<(bool, 
     }
 }
 
-/// `[word text]`, and the arguments behind it. Memory is asked for only where a text stands there.
+/// `[word text]`, and the arguments after it. Memory is allocated only if a text follows the word.
 pub(crate) fn text_clause<'a>(
     alloc: Global,
     word: &str,

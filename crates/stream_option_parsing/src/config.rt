@@ -11,11 +11,11 @@ use crate::error::SentenceError;
 use crate::values::{begins_with, number_in};
 use stream_options::StreamConfigOptions;
 
-/// The options of `XCFGSET` that the first arguments are the sentence of, and how many arguments
-/// that is: `[IDMP-DURATION d] [IDMP-MAXSIZE m]`, at least one of them, and each in its range. It
-/// takes no memory.
+/// Parses the options of `XCFGSET` from the first arguments: `[IDMP-DURATION d] [IDMP-MAXSIZE m]`, at
+/// least one of them, and each in its range. Returns them with the number of arguments parsed. It
+/// allocates no memory.
 ///
-/// `NotASentence` where there are none, or where what follows begins with a fixed word.
+/// Returns `NotASentence` if there are none, or if the rest begins with a fixed word.
 pub fn read_config(args: &[Vec<u8>]) -> Result<(StreamConfigOptions, usize), SentenceError>
     ensures split { let list = arguments args.now in IfOk result (λ x.
         IsOneSplit IsConfig config_sentence config_words Equal list x.0 x.1) }
@@ -32,7 +32,7 @@ pub fn read_config(args: &[Vec<u8>]) -> Result<(StreamConfigOptions, usize), Sen
     Ok((options, args.len() - rest.len()))
 }
 
-/// The options, and the arguments behind them.
+/// The options, and the arguments after them.
 fn config_at(args: &[Vec<u8>]) -> Option<(StreamConfigOptions, &[Vec<u8>])>
     ensures { option_map (λ x. (x.0, arguments x.1.now)) result
         ≡ reading.config_at (arguments args.now) }
@@ -43,7 +43,7 @@ fn config_at(args: &[Vec<u8>]) -> Option<(StreamConfigOptions, &[Vec<u8>])>
     Some((options, rest))
 }
 
-/// `[IDMP-DURATION d]`, and the arguments behind it.
+/// `[IDMP-DURATION d]`, and the arguments after it.
 fn duration_clause(args: &[Vec<u8>]) -> Option<(Option<u32>, &[Vec<u8>])>
     ensures read { option_map (λ x. (x.0, arguments x.1.now)) result
         ≡ reading.duration_clause (arguments args.now) }
@@ -61,7 +61,7 @@ fn duration_clause(args: &[Vec<u8>]) -> Option<(Option<u32>, &[Vec<u8>])>
     }
 }
 
-/// `[IDMP-MAXSIZE m]`, and the arguments behind it.
+/// `[IDMP-MAXSIZE m]`, and the arguments after it.
 fn maxsize_clause(args: &[Vec<u8>]) -> Option<(Option<u16>, &[Vec<u8>])>
     ensures read { option_map (λ x. (x.0, arguments x.1.now)) result
         ≡ reading.maxsize_clause (arguments args.now) }
@@ -79,7 +79,7 @@ fn maxsize_clause(args: &[Vec<u8>]) -> Option<(Option<u16>, &[Vec<u8>])>
     }
 }
 
-/// The duration that the bytes write, in its range.
+/// The duration that the bytes write in decimal; `None` if it is out of range.
 fn duration_in(bytes: &[u8]) -> Option<u32>
     ensures read { result ≡ reading.kept reading.in_duration number_of bytes.now }
     ensures range { IfSome result IsDuration }
@@ -96,7 +96,7 @@ fn duration_in(bytes: &[u8]) -> Option<u32>
     }
 }
 
-/// The number of entries that the bytes write, in its range.
+/// The number of entries that the bytes write in decimal; `None` if it is out of range.
 fn maxsize_in(bytes: &[u8]) -> Option<u16>
     ensures read { result ≡ reading.kept reading.in_maxsize number_of bytes.now }
     ensures range { IfSome result IsMaxsize }
@@ -113,7 +113,7 @@ fn maxsize_in(bytes: &[u8]) -> Option<u16>
     }
 }
 
-/// The options of these numbers, where one is there.
+/// The options with these numbers, if at least one is given.
 fn config_of(seconds: Option<u32>, maxsize: Option<u16>) -> Option<StreamConfigOptions>
     requires seconds { IfSome seconds IsDuration }
     requires maxsize { IfSome maxsize IsMaxsize }

@@ -1,4 +1,4 @@
-//! Reading to the end and writing all, with nothing tried again.
+//! Reading to the end and writing all bytes, with no retries.
 ghost use Rattle.std.specs.Prelude.{◌≡◌, ◌≢◌, ◌<◌, IfOk, IfErr, IfSome, OnOk, length};
 ghost use Rattle.std.specs.Io.KnownBytes.{Appends, Consumes, IsAtEnd};
 ghost use Rattle.stream_option_parsing.specs.Told.{WroteBeginning};
@@ -7,7 +7,7 @@ use crate::run_error::RunError;
 use std::alloc::Global;
 use std::io::{Read, Write};
 
-/// All the bytes that the reader has left. Memory is asked for only where there are any.
+/// Reads all bytes until the end. Memory is allocated only if there are any.
 pub(crate) fn read_all<R: Read>(alloc: Global, input: &mut R) -> Result<Vec<u8>, RunError>
     ensures bytes { IfOk result (λ all.
         Consumes (R.remaining input.old) (R.remaining input.new) all.items) }

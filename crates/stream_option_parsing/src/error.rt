@@ -1,15 +1,15 @@
-//! Why arguments were not read back.
+//! Why arguments were not parsed.
 ghost use Rattle.std.specs.Prelude.{◌≡◌};
 ghost use Rattle.stream_option_parsing.specs.declared.error.SentenceError.TheVariants.{Memory};
 
 use std::alloc::{AllocError, AllocFailed};
 
-/// Why arguments were not read back.
+/// Why arguments were not parsed.
 #[derive(Clone, Copy, Debug, PartialEq, Eq)]
 pub enum SentenceError {
-    /// There are no options of this type whose sentence stands in front of a free rest.
+    /// No options of this type have a prefix of the arguments as their arguments, followed by a free rest.
     NotASentence,
-    /// Memory for the options was refused.
+    /// Memory could not be allocated for the options.
     Memory,
 }
 

@@ -1,17 +1,17 @@
-//! What `==` of the errors of this crate says.
+//! What `==` of the errors of this crate means.
 ghost use Rattle.std.specs.Prelude.{◌≡◌, ◌↔◌, IsTrue};
 
 use crate::error::SentenceError;
 use crate::run_error::RunError;
 
-/// `==` holds of two `SentenceError` exactly where they are the same. It takes no memory.
+/// Whether two `SentenceError` are equal: `==` is true exactly if they are the same. It allocates no memory.
 pub fn equal_sentence_errors(a: SentenceError, b: SentenceError) -> bool
     ensures { IsTrue result ↔ (a ≡ b) }
 {
     a == b
 }
 
-/// `==` holds of two `RunError` exactly where they are the same. It takes no memory.
+/// Whether two `RunError` are equal: `==` is true exactly if they are the same. It allocates no memory.
 pub fn equal_run_errors(a: RunError, b: RunError) -> bool
     ensures { IsTrue result ↔ (a ≡ b) }
 {

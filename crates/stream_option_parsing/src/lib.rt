@@ -1,4 +1,4 @@
-//! The options of the Redis stream commands, read back from their arguments: for a server, a proxy
+//! Parses the options of the Redis stream commands from their arguments: for a server, a proxy
 //! or a log tool.
 //!
 //! ```text
@@ -6,10 +6,10 @@
 //! let (options, k) = read_trim(alloc, args)?;        // and k is 5
 //! ```
 //!
-//! Each reader answers the options of which the first `k` arguments are the sentence, and what
-//! follows begins with no fixed word of the type. There is never a second answer.
+//! Each reader returns the options whose arguments are the first `k` arguments. What follows
+//! begins with no fixed word of the type. At most one result is possible.
 //!
-//! A reader whose name ends in `_parts` answers the settings one by one, and a call like `add_with`
+//! A reader whose name ends in `_parts` returns the settings one by one, and a call like `add_with`
 //! makes the options of them.
 #![tactic(auto)]
 

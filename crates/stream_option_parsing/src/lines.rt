@@ -1,4 +1,4 @@
-//! Lines in, lines out.
+//! Reads lines and writes one line for each.
 ghost use Rattle.std.specs.Prelude.{◌≡◌, ◌≢◌, ◌<◌, IfErr, OnOk, IfSome, length};
 ghost use Rattle.std.specs.Io.KnownBytes.{Keeps, IsAtEnd};
 ghost use Rattle.stream_option_parsing.specs.Told.{WroteAnswer, WroteAnswerBeginning};
@@ -11,15 +11,15 @@ use std::io::{Read, Write};
 
 /// Reads the input to its end, and then writes one line for each of its lines.
 ///
-/// A line ends at each LF; a last line without LF counts where it has a byte. It is cut at each
-/// single space: the first part is the type word, `trim`, `add`, `config`, `autoclaim`, `claim`,
-/// `read` or `nack`, and the others are the arguments, empty ones included. The line that goes out
-/// is `ok k` where the reader of this type answers Ok with k, `no` where it answers
-/// `NotASentence`, and `unknown` where there is no such type.
+/// A line ends at each LF; a last line without LF counts if it has a byte. It is split at each
+/// single space. The first part is the type word: `trim`, `add`, `config`, `autoclaim`, `claim`,
+/// `read` or `nack`. The others are the arguments, empty ones included. The output line
+/// is `ok k` if the reader of this type returns `Ok` with k, `no` if it returns
+/// `NotASentence`, and `unknown` if there is no such type.
 ///
-/// Each error of a read or of a write is a failure, `Interrupted` too, and so is a write that takes
-/// no byte; nothing is tried again. After `Read` or `Memory` nothing was written; after `Write` a
-/// beginning of the answer was. An input with no byte takes no memory.
+/// Each error of a read or of a write is returned, `Interrupted` too, and so is a write of 0
+/// bytes; nothing is retried. After `Read` or `Memory` nothing was written; after `Write` a
+/// prefix of the output was. An input with no byte allocates no memory.
 pub fn run<R: Read, W: Write>(alloc: Global, input: &mut R, output: &mut W) -> Result<(), RunError>
     ensures answered { OnOk result (IfSome (R.remaining input.old) (λ all.
         WroteAnswer all (W.contents output.old) (W.contents output.new))) }

@@ -11,10 +11,10 @@ use crate::error::SentenceError;
 use crate::values::begins_with;
 use stream_options::{StreamNackMode, StreamNackOptions};
 
-/// The options of `XNACK` that the first argument is the word of, `SILENT`, `FAIL` or `FATAL`, and
-/// how many arguments that is: 1. It takes no memory.
+/// Parses the options of `XNACK` from the first argument: `SILENT`, `FAIL` or `FATAL`. Returns
+/// them with the number of arguments parsed, 1. It allocates no memory.
 ///
-/// `NotASentence` where there is no such word, or where what follows begins with one.
+/// Returns `NotASentence` if there is no such word, or if the rest begins with one.
 pub fn read_nack(args: &[Vec<u8>]) -> Result<(StreamNackOptions, usize), SentenceError>
     ensures split { let list = arguments args.now in IfOk result (λ x.
         IsOneSplit Any nack_sentence nack_words Equal list x.0 x.1) }
@@ -31,7 +31,7 @@ pub fn read_nack(args: &[Vec<u8>]) -> Result<(StreamNackOptions, usize), Sentenc
     Ok((options, args.len() - rest.len()))
 }
 
-/// The options, and the arguments behind them.
+/// The options, and the arguments after them.
 fn nack_at(args: &[Vec<u8>]) -> Option<(StreamNackOptions, &[Vec<u8>])>
     ensures { option_map (λ x. (x.0, arguments x.1.now)) result
         ≡ reading.nack_at (arguments args.now) }

@@ -6,7 +6,7 @@ ghost use Rattle.stream_option_parsing.specs.Split.{arguments};
 use crate::run_error::RunError;
 use std::alloc::Global;
 
-/// The first line, and what stands behind it.
+/// The first line, and the bytes after it.
 pub(crate) fn cut_line(bytes: &[u8]) -> (&[u8], &[u8])
     requires { 0 < length bytes.now }
     ensures lines { lines_of bytes.now ≡ result.0.now ∷ lines_of result.1.now }
@@ -18,7 +18,7 @@ pub(crate) fn cut_line(bytes: &[u8]) -> (&[u8], &[u8])
     }
 }
 
-/// The type word of a line, and the arguments behind it.
+/// The type word of a line, and the arguments after it.
 pub(crate) fn cut_parts(alloc: Global, line: &[u8]) -> Result<(&[u8], Vec<Vec<u8>>), RunError>
     ensures parts { IfOk result (λ x. parts_of line.now ≡ x.0.now ∷ arguments x.1.items) }
     ensures err { IfErr result (λ e. e ≡ RunError.Memory) }
@@ -28,7 +28,7 @@ pub(crate) fn cut_parts(alloc: Global, line: &[u8]) -> Result<(&[u8], Vec<Vec<u8
     Ok((word, args))
 }
 
-/// The arguments that are left of a line.
+/// The remaining arguments of a line.
 fn args_in(alloc: Global, line: Option<&[u8]>) -> Result<Vec<Vec<u8>>, RunError>
     ensures args { IfOk result (λ args. arguments args.items ≡ parts_left line.entry) }
     ensures err { IfErr result (λ e. e ≡ RunError.Memory) }
@@ -43,7 +43,7 @@ fn args_in(alloc: Global, line: Option<&[u8]>) -> Result<Vec<Vec<u8>>, RunError>
     Ok(args)
 }
 
-/// What stands before the first such byte, and what stands behind it.
+/// The bytes before the first `mark`, and those after it, if there is one.
 fn cut_at(mark: u8, bytes: &[u8]) -> (&[u8], Option<&[u8]>)
     ensures cut { (end : List (List ℕ)) → pieces mark end bytes.now
         ≡ pieces_from mark end result.0.now result.1 }

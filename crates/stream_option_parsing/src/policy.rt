@@ -7,7 +7,7 @@ ghost use Rattle.stream_option_parsing.specs.Split.{arguments};
 
 use stream_options::StreamDeletionPolicy;
 
-/// `[policy]`, and the arguments behind it.
+/// `[policy]`, and the arguments after it.
 #[tactic(auto, using(crate::proofs::PolicyLemmas::policy_there, crate::proofs::PolicyLemmas::policy_missing))]
 pub(crate) fn policy_clause(args: &[Vec<u8>]) -> (Option<StreamDeletionPolicy>, &[Vec<u8>])
     ensures { reading.policy_clause (arguments args.now)

@@ -23,23 +23,23 @@ pub struct GroupNames<'a> {
 }
 
 /// The settings of `XREAD` and `XREADGROUP` one by one: `[GROUP g c] [BLOCK n] [COUNT n]`, then only
-/// where a group is set `[NOACK] [CLAIM n]`.
+/// if a group is set `[NOACK] [CLAIM n]`.
 #[derive(Clone, Copy, Debug, PartialEq, Eq)]
 pub struct ReadParts<'a> {
-    /// For which consumer of which group.
+    /// The group and the consumer that the entries are read for.
     pub group: Option<GroupNames<'a>>,
-    /// The read waits so many milliseconds, and 0 without end.
+    /// The read blocks for this number of milliseconds; 0 is no limit.
     pub block: Option<usize>,
-    /// The most entries that are read of a stream.
+    /// The largest number of entries that are read from a stream.
     pub count: Option<usize>,
-    /// Whether what is read needs no acknowledgement.
+    /// Whether the entries that are read need no acknowledgement.
     pub noack: bool,
-    /// Entries that are idle for so many milliseconds are claimed and read first.
+    /// Entries that are idle for this number of milliseconds are claimed and read first.
     pub claim: Option<usize>,
 }
 
-/// The options of `XREAD` and `XREADGROUP` with these settings. Memory is asked for only where a
-/// group is set, and its refusal is the only error.
+/// Returns the options of `XREAD` and `XREADGROUP` with these settings. Memory is allocated only if a
+/// group is set; a refused allocation is the only error.
 pub fn read_with(alloc: Global, parts: ReadParts<'_>) -> Result<StreamReadOptions, SentenceError>
     ensures ok { IfOk result (λ options. options ≡ read_of parts.entry) }
     ensures cause { IfErr result (λ e. e ≡ SentenceError.Memory) }
@@ -53,11 +53,11 @@ pub fn read_with(alloc: Global, parts: ReadParts<'_>) -> Result<StreamReadOption
     Ok(with_claim(with_noack(options, parts.noack), parts.claim))
 }
 
-/// The options of `XREAD` and `XREADGROUP` that the first arguments are the sentence of, and how
-/// many arguments that is: `[GROUP g c] [BLOCK n] [COUNT n]`, then only where a group is set
+/// Parses the options of `XREAD` and `XREADGROUP` from the first arguments. Returns them with the
+/// number of arguments parsed: `[GROUP g c] [BLOCK n] [COUNT n]`, then only if a group is set
 /// `[NOACK] [CLAIM n]`. Each name is one argument, of any bytes.
 ///
-/// `NotASentence` where there are none, or where what follows begins with a fixed word.
+/// Returns `NotASentence` if there are none, or if the rest begins with a fixed word.
 pub fn read_read(
     alloc: Global,
     args: &[Vec<u8>],
@@ -72,10 +72,10 @@ pub fn read_read(
     Ok((options, count))
 }
 
-/// The settings of `XREAD` and `XREADGROUP` that the first arguments are the sentence of, and how
-/// many arguments that is. `read_with` makes the options of them. It takes no memory.
+/// Parses the settings of `XREAD` and `XREADGROUP` from the first arguments. Returns them with the
+/// number of arguments parsed; `read_with` makes the options of them. It allocates no memory.
 ///
-/// `NotASentence` where there are none, or where what follows begins with a fixed word.
+/// Returns `NotASentence` if there are none, or if the rest begins with a fixed word.
 pub fn read_read_parts(args: &[Vec<u8>]) -> Result<(ReadParts<'_>, usize), SentenceError>
     ensures split { let list = arguments args.now in IfOk result (λ x.
         IsOneSplit ReadFits read_sentence read_words CountAlike list (read_of x.0) x.1) }
@@ -94,7 +94,7 @@ pub fn read_read_parts(args: &[Vec<u8>]) -> Result<(ReadParts<'_>, usize), Sente
     Ok((parts, args.len() - rest.len()))
 }
 
-/// The settings, and the arguments behind them.
+/// The settings, and the arguments after them.
 #[tactic(auto, using(crate::proofs::ReadLemmas::forms))]
 fn read_at(args: &[Vec<u8>]) -> Option<(ReadParts<'_>, &[Vec<u8>])>
     ensures read { option_map (λ x. (read_of x.0, arguments x.1.now)) result
@@ -109,7 +109,7 @@ fn read_at(args: &[Vec<u8>]) -> Option<(ReadParts<'_>, &[Vec<u8>])>
     }
 }
 
-/// `GROUP g c [BLOCK n] [COUNT n] [NOACK] [CLAIM n]`, and the arguments behind it.
+/// `GROUP g c [BLOCK n] [COUNT n] [NOACK] [CLAIM n]`, and the arguments after it.
 fn grouped_at(args: &[Vec<u8>]) -> Option<(ReadParts<'_>, &[Vec<u8>])>
     ensures read { option_map (λ x. (read_of x.0, arguments x.1.now)) result
         ≡ reading.reading_as reading.grouped_with reading.grouped_at (arguments args.now) }
@@ -130,7 +130,7 @@ fn grouped_at(args: &[Vec<u8>]) -> Option<(ReadParts<'_>, &[Vec<u8>])>
     Some((parts, rest))
 }
 
-/// `GROUP g c`, and the arguments behind it.
+/// `GROUP g c`, and the arguments after it.
 fn group_at(args: &[Vec<u8>]) -> Option<(GroupNames<'_>, &[Vec<u8>])>
     ensures { option_map (λ x. (group_of x.0, arguments x.1.now)) result
         ≡ reading.group_at (arguments args.now) }
@@ -143,7 +143,7 @@ fn group_at(args: &[Vec<u8>]) -> Option<(GroupNames<'_>, &[Vec<u8>])>
     }
 }
 
-/// `[BLOCK n] [COUNT n]`, and the arguments behind it.
+/// `[BLOCK n] [COUNT n]`, and the arguments after it.
 fn ungrouped_at(args: &[Vec<u8>]) -> Option<(ReadParts<'_>, &[Vec<u8>])>
     ensures read { option_map (λ x. (read_of x.0, arguments x.1.now)) result
         ≡ reading.reading_as reading.ungrouped_with reading.ungrouped_at (arguments args.now) }
@@ -162,7 +162,7 @@ fn ungrouped_at(args: &[Vec<u8>]) -> Option<(ReadParts<'_>, &[Vec<u8>])>
     Some((parts, rest))
 }
 
-/// Options with these names alone.
+/// The options with only these names.
 fn for_group(
     alloc: Global,
     group: &[u8],
@@ -177,7 +177,7 @@ fn for_group(
     Ok(StreamReadOptions::default().group(alloc, group, consumer)?)
 }
 
-/// The time to block, where there is one.
+/// Sets the time to block, if there is one.
 fn with_block(options: StreamReadOptions, block: Option<usize>) -> StreamReadOptions
     requires { options.block ≡ None }
     ensures { result ≡ record options { block = block } }
@@ -188,7 +188,7 @@ fn with_block(options: StreamReadOptions, block: Option<usize>) -> StreamReadOpt
     }
 }
 
-/// The number of entries, where there is one.
+/// Sets the number of entries, if there is one.
 fn with_count(options: StreamReadOptions, count: Option<usize>) -> StreamReadOptions
     requires { options.count ≡ None }
     ensures { result ≡ record options { count = count } }
@@ -199,7 +199,7 @@ fn with_count(options: StreamReadOptions, count: Option<usize>) -> StreamReadOpt
     }
 }
 
-/// The flag, where it is wanted.
+/// Sets the flag if `wanted`.
 fn with_noack(options: StreamReadOptions, wanted: bool) -> StreamReadOptions
     requires { options.noack ≡ false }
     ensures { result ≡ record options { noack = wanted } }
@@ -207,7 +207,7 @@ fn with_noack(options: StreamReadOptions, wanted: bool) -> StreamReadOptions
     if wanted { options.noack() } else { options }
 }
 
-/// The time after which entries are claimed, where there is one.
+/// Sets the idle time after which entries are claimed, if there is one.
 fn with_claim(options: StreamReadOptions, claim: Option<usize>) -> StreamReadOptions
     requires { options.claim ≡ None }
     ensures { result ≡ record options { claim = claim } }

@@ -1,17 +1,17 @@
-//! Why lines were not answered.
+//! Why `run` failed.
 ghost use Rattle.std.specs.Prelude.{◌≡◌};
 ghost use Rattle.stream_option_parsing.specs.declared.run_error.RunError.TheVariants.{Memory};
 
 use std::alloc::{AllocError, AllocFailed};
 
-/// Why lines were not answered.
+/// Why `run` failed.
 #[derive(Clone, Copy, Debug, PartialEq, Eq)]
 pub enum RunError {
     /// The reader failed; nothing was written.
     Read,
-    /// The writer failed, or took no byte; a beginning of the answer was written.
+    /// The writer failed, or wrote 0 bytes; a prefix of the output was written.
     Write,
-    /// Memory was refused; nothing was written.
+    /// Memory could not be allocated; nothing was written.
     Memory,
 }
 

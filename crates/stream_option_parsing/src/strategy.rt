@@ -10,7 +10,7 @@ use crate::values::{mode_in, number_in, text_in};
 use std::alloc::Global;
 use stream_options::StreamTrimStrategy;
 
-/// A strategy, and the arguments behind it. Memory is asked for only where a bound stands there.
+/// A strategy, and the arguments after it. Memory is allocated only if there is a bound.
 #[tactic(auto, using(crate::proofs::StrategyLemmas::limits))]
 pub(crate) fn strategy_at(
     alloc: Global,
@@ -31,8 +31,8 @@ pub(crate) fn strategy_at(
     }
 }
 
-/// `MAXLEN mode n` or `MINID mode id` as a strategy without a limit, and the arguments behind it.
-/// Memory is asked for only where they stand there.
+/// `MAXLEN mode n` or `MINID mode id` as a strategy without a limit, and the arguments after it.
+/// Memory is allocated only if there is one.
 fn bound_at(
     alloc: Global,
     args: &[Vec<u8>],

@@ -20,21 +20,21 @@ use stream_options::{StreamDeletionPolicy, StreamTrimOptions, StreamTrimStrategy
 pub struct TrimParts {
     /// How the stream is trimmed.
     pub strategy: StreamTrimStrategy,
-    /// What becomes of the references that groups hold to trimmed entries.
+    /// What happens to the references that groups hold to trimmed entries.
     pub policy: Option<StreamDeletionPolicy>,
 }
 
-/// The options of `XTRIM` with these settings. It takes no memory.
+/// Returns the options of `XTRIM` with these settings. It allocates no memory.
 pub fn trim_with(parts: TrimParts) -> StreamTrimOptions
     ensures { result ≡ trim_of parts }
 {
     with_policy(trim_by(parts.strategy), parts.policy)
 }
 
-/// The options of `XTRIM` that the first arguments are the sentence of, and how many arguments
-/// that is: `strategy [policy]`.
+/// Parses the options of `XTRIM` from the first arguments: `strategy [policy]`. Returns them with the
+/// number of arguments parsed.
 ///
-/// `NotASentence` where there are none, or where what follows begins with a fixed word.
+/// Returns `NotASentence` if there are none, or if the rest begins with a fixed word.
 pub fn read_trim(
     alloc: Global,
     args: &[Vec<u8>],
@@ -48,10 +48,10 @@ pub fn read_trim(
     Ok((trim_with(parts), count))
 }
 
-/// The settings of `XTRIM` that the first arguments are the sentence of, and how many arguments that
-/// is. `trim_with` makes the options of them.
+/// Parses the settings of `XTRIM` from the first arguments. Returns them with the number of arguments
+/// parsed; `trim_with` makes the options of them.
 ///
-/// `NotASentence` where there are none, or where what follows begins with a fixed word.
+/// Returns `NotASentence` if there are none, or if the rest begins with a fixed word.
 pub fn read_trim_parts(alloc: Global, args: &[Vec<u8>]) -> Result<(TrimParts, usize), SentenceError>
     ensures split { let list = arguments args.now in IfOk result (λ x.
         IsOneSplit TrimFits trim_sentence trim_words Equal list (trim_of x.0) x.1) }
@@ -68,7 +68,7 @@ pub fn read_trim_parts(alloc: Global, args: &[Vec<u8>]) -> Result<(TrimParts, us
     Ok((parts, args.len() - rest.len()))
 }
 
-/// The settings, and the arguments behind them.
+/// The settings, and the arguments after them.
 fn trim_at(alloc: Global, args: &[Vec<u8>]) -> Result<(TrimParts, &[Vec<u8>]), SentenceError>
     ensures { Gives (λ x. (trim_of x.0, arguments x.1.now)) result (reading.trim_at (arguments args.now)) }
 {
@@ -77,7 +77,7 @@ fn trim_at(alloc: Global, args: &[Vec<u8>]) -> Result<(TrimParts, &[Vec<u8>]), S
     Ok((TrimParts { strategy, policy }, rest))
 }
 
-/// The options of this strategy.
+/// The options with this strategy.
 fn trim_by(strategy: StreamTrimStrategy) -> StreamTrimOptions
     ensures { result ≡ record { strategy = strategy_of strategy; policy = None } }
 {
@@ -91,7 +91,7 @@ fn trim_by(strategy: StreamTrimStrategy) -> StreamTrimOptions
     }
 }
 
-/// The limit, where there is one.
+/// Sets the limit, if there is one.
 fn with_limit(options: StreamTrimOptions, limit: Option<usize>) -> StreamTrimOptions
     requires { options.strategy.limit ≡ None }
     ensures { result ≡ record options { strategy = record options.strategy { limit = limit } } }
@@ -102,7 +102,7 @@ fn with_limit(options: StreamTrimOptions, limit: Option<usize>) -> StreamTrimOpt
     }
 }
 
-/// The policy, where there is one.
+/// Sets the policy, if there is one.
 fn with_policy(
     options: StreamTrimOptions,
     policy: Option<StreamDeletionPolicy>,

@@ -29,7 +29,7 @@ pub(crate) fn number_in(bytes: &[u8]) -> Option<usize>
     }
 }
 
-/// The text that the bytes are. Memory is asked for only where they are one.
+/// The bytes as a text. Memory is allocated only if they are UTF-8.
 pub(crate) fn text_in(alloc: Global, bytes: &[u8]) -> Result<String, SentenceError>
     ensures text { Gives string_bytes result (text_of bytes.now) }
     ensures none { IfErr result (λ e. text_of bytes.now ≡ None → e ≡ SentenceError.NotASentence) }
