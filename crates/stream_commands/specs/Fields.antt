@@ -39,7 +39,7 @@ module _ {T : Type 0} (args : T → List (List ℕ)) (each : (x : T) → AreFiel
       ∙ (ap (λ rest. flat_map field_sentence (all (each x).fields) ++ rest) (are_in xs)
       ∙ sym (flat_map-append field_sentence (all (each x).fields) (fields_in xs)))
 
-  -- items that are fields are fields together
+  -- the fields of all items of a non-empty list are fields
   pub fields_joined : (xs : NonEmpty T) → AreFields (flat_map args (all xs))
   fields_joined xs = record {
     fields = record {
@@ -54,22 +54,22 @@ pub record AreAnyFields (args : List (List ℕ)) : Type 0 where
   pub fields : List (List ℕ × List ℕ)
   pub are : args ≡ flat_map field_sentence fields
 
--- fields are fields or nothing
+-- fields are also fields or nothing
 pub any_fields : {args : List (List ℕ)} → AreFields args → AreAnyFields args
 any_fields are = record { fields = all are.fields; are = are.are }
 
--- those of all items
+-- the fields of all items of a list are fields or nothing
 pub each_joined : {T : Type 0} (args : T → List (List ℕ)) (each : (x : T) → AreFields (args x)) (xs : List T)
     → AreAnyFields (flat_map args xs)
 each_joined args each xs = record { fields = fields_in args each xs; are = are_in args each xs }
 
--- those of the value that is set, if one is
+-- the fields of an optional value are fields or nothing
 pub those_set : {T : Type 0} (args : T → List (List ℕ)) (each : (x : T) → AreFields (args x)) (value : Option T)
     → AreAnyFields (clause args value)
 those_set args each (Some x) = any_fields (each x)
 those_set args each None = record { fields = []; are = refl }
 
--- some, and behind them one or more
+-- a list followed by a non-empty list
 abbrev followed : {A : Type 0} → List A → NonEmpty A → NonEmpty A
 followed [] behind = behind
 followed (x ∷ xs) behind = record { first = x; rest = xs ++ all behind }
@@ -78,7 +78,7 @@ all_followed : {A : Type 0} (xs : List A) (behind : NonEmpty A) → all (followe
 all_followed [] behind = refl
 all_followed (x ∷ xs) behind = refl
 
--- fields or nothing, and fields behind them, are fields
+-- fields or nothing, followed by fields, are fields
 pub then_fields : (front behind : List (List ℕ)) → AreAnyFields front → AreFields behind → AreFields (front ++ behind)
 then_fields front behind a b = record {
   fields = followed a.fields b.fields;

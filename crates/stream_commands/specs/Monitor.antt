@@ -1,2 +1,2 @@
--- What the contract of a group's state speaks of.
+-- The definitions for the contract of a group's state.
 pub mod GroupState

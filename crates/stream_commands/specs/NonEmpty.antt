@@ -1,7 +1,7 @@
 -- Lists that are not empty.
 use Rattle.std.specs.Prelude.{List, ◌∷◌}
 
--- a first item, and those behind it
+-- a first item, and the items after it
 pub record NonEmpty (T : Type 0) : Type 0 where
   pub first : T
   pub rest : List T

@@ -12,11 +12,11 @@ use Rattle.stream_options.specs.Words.{among, IsUsize}
 abbrev pub IsDetermined : {T : Type 0} → (T → Type 0) → (T → List (List ℕ)) → (T → T → Type 0) → Type 0
 IsDetermined {T = T} Fits list Alike = (a b : T) → Fits a → Fits b → list a ≡ list b → Alike a b
 
--- the argument is none of the fixed words of the options, as no id of an entry is
+-- the argument is none of the fixed words of the options, as is true of the id of an entry
 abbrev pub IsApart : List (List ℕ) → List ℕ → Type 0
 IsApart words arg = among words arg ≡ false
 
--- so is each text that begins with a number, as an id of a time and a place among its entries does
+-- so is each text that begins with a number, such as an id of a time and a sequence number
 abbrev pub NumbersAreApart : List (List ℕ) → Type 0
 NumbersAreApart words = (n : ℕ) (rest : List ℕ) → n < 2 ^ 64 → IsApart words (decimal n ++ rest)
 
@@ -77,7 +77,7 @@ pub record ReadParts : Type 0 where
   pub options : Read
   pub streams : List (List ℕ × List ℕ)
 
--- `XREAD [options] STREAMS key .. id ..`, or `XREADGROUP` where a group is set
+-- `XREAD [options] STREAMS key .. id ..`, or `XREADGROUP` if a group is set
 abbrev pub read_list : ReadParts → List (List ℕ)
 read_list c =
     read_word c.options

@@ -1,4 +1,4 @@
-//! Entries that a consumer has handled: XACK and XACKDEL.
+//! Acknowledging entries: XACK and XACKDEL.
 ghost use Rattle.std.specs.Prelude.{◌≡◌, ◌∷◌, ◌++◌, codes, decimal, length};
 ghost use Rattle.std.specs.List.{flat_map};
 ghost use Rattle.stream_commands.specs.NonEmpty.{all};
@@ -12,8 +12,8 @@ use redis_resp::ToSingleRedisArg;
 use redis_streams::XAckDelStatusCode;
 use stream_options::StreamDeletionPolicy;
 
-/// `XACK key group id ..`: these entries are no longer pending for the group. The answer is how
-/// many were.
+/// `XACK key group id ..`: acknowledges these entries, so that they are no longer pending for the group. The reply is
+/// the number of entries that were pending.
 ///
 /// ```text
 /// xack("orders", "g", AtLeastOne::one(&"1-0"))    // XACK orders g 1-0
@@ -29,8 +29,8 @@ pub fn xack<'w, 'a, K: ToSingleRedisArg, G: ToSingleRedisArg, I: ToSingleRedisAr
     Command::new((Word("XACK"), key, group, ids))
 }
 
-/// `XACKDEL key group policy IDS n id ..`: these entries are no longer pending for the group, and
-/// are deleted as the policy says. The answer has a code for each id.
+/// `XACKDEL key group policy IDS n id ..`: acknowledges these entries, and deletes them as the
+/// policy defines. The reply has a code for each id.
 ///
 /// ```text
 /// xack_del("orders", "g", AtLeastOne::one(&"1-0"), StreamDeletionPolicy::Acked)

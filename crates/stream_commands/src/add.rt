@@ -1,4 +1,4 @@
-//! Entries that are added: XADD.
+//! Adding entries: XADD.
 ghost use Rattle.std.specs.Prelude.{◌≡◌, ◌∷◌, ◌++◌, codes};
 ghost use Rattle.stream_options.specs.Add.{add_sentence};
 ghost use Rattle.stream_options.specs.Maxlen.{maxlen_sentence};
@@ -9,8 +9,8 @@ use crate::fields::ToFieldArgs;
 use redis_resp::ToSingleRedisArg;
 use stream_options::{StreamAddOptions, StreamMaxlen};
 
-/// `XADD key id field value ..`: adds an entry of these fields. The answer is its id, which the
-/// server makes where `id` is `*`.
+/// `XADD key id field value ..`: adds an entry with these fields. The reply is its id, which the
+/// server generates if `id` is `*`.
 ///
 /// ```text
 /// xadd("orders", "*", ("item", "tea"))            // XADD orders * item tea
@@ -25,8 +25,8 @@ pub fn xadd<'w, K: ToSingleRedisArg, I: ToSingleRedisArg, F: ToFieldArgs>(
     Command::new((Word("XADD"), key, id, fields))
 }
 
-/// `XADD key [options] id field value ..`: adds an entry of these fields as the options say. The
-/// answer is its id, or None where the options want no new stream and there is none.
+/// `XADD key [options] id field value ..`: adds an entry with these fields and options. The reply is
+/// its id, or `None` if the options have `NOMKSTREAM` and the stream does not exist.
 ///
 /// ```text
 /// let options = StreamAddOptions::default().nomkstream();
@@ -45,8 +45,8 @@ pub fn xadd_options<'w, 'a, K: ToSingleRedisArg, I: ToSingleRedisArg, F: ToField
     Command::new((Word("XADD"), key, options, (id, fields)))
 }
 
-/// `XADD key MAXLEN mode n id field value ..`: adds an entry of these fields, and cuts the stream
-/// to this length. The answer is its id.
+/// `XADD key MAXLEN mode n id field value ..`: adds an entry with these fields, and trims the stream
+/// to this length. The reply is its id.
 ///
 /// ```text
 /// xadd_maxlen("orders", StreamMaxlen::Approx(1000), "*", ("item", "tea"))

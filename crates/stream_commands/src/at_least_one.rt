@@ -6,7 +6,7 @@ ghost use Rattle.stream_commands.specs.NonEmpty.{all};
 use redis_resp::{RedisWrite, ToRedisArgs, WriteError};
 use std::marker::Model;
 
-/// One item or more, borrowed. A command that takes a list takes one of these, since the server
+/// One item or more, borrowed. A command that takes a list takes an `AtLeastOne`, since the server
 /// refuses an empty list.
 #[derive(Debug, Drop)]
 pub struct AtLeastOne<'a, T> {
@@ -27,7 +27,7 @@ impl<'a, T> Model for AtLeastOne<'a, T> {
 }
 
 impl<'a, T> AtLeastOne<'a, T> {
-    /// These items; None where there are none.
+    /// These items; `None` if the slice is empty.
     pub fn new(items: &'a [T]) -> Option<AtLeastOne<'a, T>>
         ensures { MatchOption result (items.now ≡ []) (λ list. all list ≡ items.now) }
     {
@@ -41,7 +41,7 @@ impl<'a, T> AtLeastOne<'a, T> {
         }
     }
 
-    /// This item alone.
+    /// Only this item.
     pub fn one(item: &'a T) -> AtLeastOne<'a, T>
         ensures { all result ≡ item.now ∷ [] }
     {
@@ -59,7 +59,7 @@ impl<'a, T> AtLeastOne<'a, T> {
         self.first
     }
 
-    /// The items behind the first one.
+    /// The items after the first one.
     pub fn rest(&self) -> &'a [T]
         ensures { result.now ≡ self.now.rest }
     {

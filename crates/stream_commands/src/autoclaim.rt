@@ -1,4 +1,4 @@
-//! Idle entries that pass to another consumer, whichever they are: XAUTOCLAIM.
+//! Claiming idle entries, whatever their ids: XAUTOCLAIM.
 ghost use Rattle.std.specs.Prelude.{◌≡◌, ◌↔◌, [], ◌∷◌, ◌++◌, true, codes, decimal, IfOk, IsErr, IsTrue};
 ghost use Rattle.stream_options.specs.AutoClaim.{autoclaim_sentence};
 
@@ -8,10 +8,10 @@ use redis_resp::ToSingleRedisArg;
 use redis_streams::{StreamAutoClaimJustIdReply, StreamAutoClaimReply};
 use stream_options::StreamAutoClaimOptions;
 
-/// `XAUTOCLAIM key group consumer min-idle start [options]`: entries from `start` on that are
-/// pending for `min_idle` milliseconds pass to the consumer. The answer has them with their fields,
-/// and the id from which the next call goes on. `JustIdIsSet` where the options have `JUSTID`,
-/// whose answer has no fields: that is `xautoclaim_justid`.
+/// `XAUTOCLAIM key group consumer min-idle start [options]`: claims entries from `start` on that are
+/// idle for at least `min_idle` milliseconds for the consumer. The reply has them with their fields,
+/// and the id from which the next call continues. Returns `JustIdIsSet` if the options have `JUSTID`,
+/// whose reply has no fields: `xautoclaim_justid` is for that.
 ///
 /// ```text
 /// let options = StreamAutoClaimOptions::default().count(10);
@@ -54,9 +54,9 @@ pub fn xautoclaim_options<
     )))
 }
 
-/// `XAUTOCLAIM key group consumer min-idle start [options] JUSTID`: the same, with `JUSTID` among
-/// the options whether they had it or not. The answer has the ids of the entries alone, and the id
-/// from which the next call goes on. The claim is no delivery.
+/// `XAUTOCLAIM key group consumer min-idle start [options] JUSTID`: the same, with `JUSTID` added to
+/// the options if they do not have it. The reply has only the ids of the entries, and the id
+/// from which the next call continues. The claim does not count as a delivery.
 ///
 /// ```text
 /// let options = StreamAutoClaimOptions::default();
@@ -91,9 +91,9 @@ pub fn xautoclaim_justid<
     ))
 }
 
-/// `XAUTOCLAIM key group consumer min-idle start`: entries from `start` on that are pending for
-/// `min_idle` milliseconds pass to the consumer, a hundred at most. The answer has them with their
-/// fields, and the id from which the next call goes on.
+/// `XAUTOCLAIM key group consumer min-idle start`: claims entries from `start` on that are idle for at
+/// least `min_idle` milliseconds for the consumer, at most 100. The reply has them with their
+/// fields, and the id from which the next call continues.
 ///
 /// ```text
 /// xautoclaim("orders", "g", "c", 60000, "0-0")    // XAUTOCLAIM orders g c 60000 0-0
@@ -117,7 +117,7 @@ pub fn xautoclaim<
     Command::new((Word("XAUTOCLAIM"), key, group, consumer, min_idle, start))
 }
 
-/// `XAUTOCLAIM key group consumer min-idle start COUNT count`: the same, `count` at most.
+/// `XAUTOCLAIM key group consumer min-idle start COUNT count`: the same, at most `count`.
 ///
 /// ```text
 /// xautoclaim_count("orders", "g", "c", 60000, "0-0", 10)

@@ -1,4 +1,4 @@
-//! Pending entries that pass to another consumer: XCLAIM.
+//! Claiming pending entries for another consumer: XCLAIM.
 ghost use Rattle.std.specs.Prelude.{◌≡◌, ◌↔◌, ◌∷◌, ◌++◌, true, codes, decimal, IfOk, IsErr, IsTrue};
 ghost use Rattle.std.specs.List.{flat_map};
 ghost use Rattle.stream_commands.specs.NonEmpty.{all};
@@ -11,8 +11,8 @@ use redis_resp::ToSingleRedisArg;
 use redis_streams::StreamClaimReply;
 use stream_options::StreamClaimOptions;
 
-/// `XCLAIM key group consumer min-idle id ..`: those of these entries that are pending for
-/// `min_idle` milliseconds pass to the consumer. The answer has them with their fields.
+/// `XCLAIM key group consumer min-idle id ..`: claims those of these entries that are idle for at least
+/// `min_idle` milliseconds for the consumer. The reply has them with their fields.
 ///
 /// ```text
 /// xclaim("orders", "g", "c", 60000, AtLeastOne::one(&"1-0"))
@@ -42,8 +42,8 @@ pub fn xclaim<
 /// and options.
 pub type ClaimArgs<'w, 'a, K, G, C, I, O> = (Word<'w>, K, G, C, usize, (AtLeastOne<'a, I>, O));
 
-/// `XCLAIM key group consumer min-idle id .. [options]`: the same as `xclaim`, as the options say.
-/// `JustIdIsSet` where they have `JUSTID`, whose answer has no entries: that is `xclaim_justid`.
+/// `XCLAIM key group consumer min-idle id .. [options]`: the same as `xclaim`, with options.
+/// Returns `JustIdIsSet` if they have `JUSTID`, whose reply has no entries: `xclaim_justid` is for that.
 ///
 /// ```text
 /// let options = StreamClaimOptions::default().retry(3);
@@ -86,9 +86,9 @@ pub fn xclaim_options<
     )))
 }
 
-/// `XCLAIM key group consumer min-idle id .. [options] JUSTID`: the same, with `JUSTID` among the
-/// options whether they had it or not. The answer has the ids of the entries alone, and the claim
-/// is no delivery.
+/// `XCLAIM key group consumer min-idle id .. [options] JUSTID`: the same, with `JUSTID` added to
+/// the options if they do not have it. The reply has only the ids of the entries, and the claim
+/// does not count as a delivery.
 ///
 /// ```text
 /// let options = StreamClaimOptions::default();

@@ -1,4 +1,4 @@
-//! A whole command: its arguments, and the type of its answer.
+//! A whole command: its arguments, and the type of its reply.
 ghost use Rattle.std.specs.Prelude.{◌≡◌, [], ◌∷◌, IfOk, IfErr, Some};
 ghost use Rattle.redis_resp.specs.Refusal.{Refuses};
 ghost use Rattle.redis_resp.specs.Value.{tree};
@@ -10,7 +10,7 @@ use redis_wire::{Reply, ReplyError, from_reply};
 use std::alloc::Global;
 use std::marker::{Model, PhantomData};
 
-/// A command whose arguments are those of an `A`, and whose answer is an `R`.
+/// A command whose arguments are those of an `A`, and whose reply is an `R`.
 ///
 /// A contract sees it as its list of arguments, the name of the command first.
 #[derive(Drop)]
@@ -46,7 +46,7 @@ impl<A: ToRedisArgs, R: FromRedisValue> Command<A, R> {
         }
     }
 
-    /// Reads the answer to this command as an `R`, and consumes it. It is refused as `R` refuses.
+    /// Parses the reply to this command as an `R`, and consumes it. The errors are those of `R`.
     pub fn read(&self, alloc: Global, v: Value) -> Result<R, ParsingError>
         ensures ok { IfOk result (λ r. R.reading (tree v) ≡ Some (R.meaning r)) }
         ensures err { IfErr result (Refuses R.reading R.may_refuse (tree v)) }
@@ -54,7 +54,7 @@ impl<A: ToRedisArgs, R: FromRedisValue> Command<A, R> {
         R::from_redis_value(alloc, v)
     }
 
-    /// Reads the same from a borrowed value.
+    /// Parses the same from a borrowed value.
     pub fn read_ref(&self, alloc: Global, v: &Value) -> Result<R, ParsingError>
         ensures ok { IfOk result (λ r. R.reading (tree v.now) ≡ Some (R.meaning r)) }
         ensures err { IfErr result (Refuses R.reading R.may_refuse (tree v.now)) }
@@ -62,8 +62,8 @@ impl<A: ToRedisArgs, R: FromRedisValue> Command<A, R> {
         R::from_redis_value_ref(alloc, v)
     }
 
-    /// Reads the reply to this command as an `R`, and consumes it. An error of the server is
-    /// returned as such, whatever `R` is; so is the first one in a group.
+    /// Parses the reply to this command as an `R`, and consumes it. An error of the server is
+    /// returned as such, whatever `R` is; so is the first error in an aggregate.
     pub fn read_reply(&self, alloc: Global, reply: Reply) -> Result<R, ReplyError>
         ensures { IsRecord R.reading R.may_refuse R.meaning (answer reply) result }
     {

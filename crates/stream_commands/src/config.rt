@@ -1,4 +1,4 @@
-//! How a stream tells entries that are sent twice: XCFGSET.
+//! How a stream recognizes entries that are sent twice: XCFGSET.
 ghost use Rattle.std.specs.Prelude.{◌≡◌, ◌∷◌, ◌++◌, codes};
 ghost use Rattle.stream_options.specs.Config.{config_sentence};
 
@@ -6,8 +6,8 @@ use crate::command::{Command, Word};
 use redis_resp::ToSingleRedisArg;
 use stream_options::StreamConfigOptions;
 
-/// `XCFGSET key options`: sets for how long, and how many of, the ids of a producer are kept. The
-/// answer is `OK`.
+/// `XCFGSET key options`: sets how long the ids of a producer are kept, and how many of them. The
+/// reply is `OK`.
 ///
 /// ```text
 /// let options = StreamConfigOptions::with_idempotency_seconds(300)?;

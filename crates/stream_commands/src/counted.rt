@@ -1,4 +1,4 @@
-//! Ids with their number.
+//! Ids with their count.
 ghost use Rattle.std.specs.Prelude.{◌∷◌, decimal, length};
 ghost use Rattle.std.specs.List.{flat_map};
 ghost use Rattle.stream_commands.specs.NonEmpty.{all};
@@ -6,7 +6,7 @@ ghost use Rattle.stream_commands.specs.NonEmpty.{all};
 use crate::at_least_one::AtLeastOne;
 use redis_resp::{RedisWrite, ToRedisArgs, WriteError};
 
-/// How many ids there are, and the ids, as `IDS` wants them.
+/// The number of ids, and the ids, as `IDS` expects them.
 #[derive(Debug, Drop)]
 pub struct CountedIds<'a, I>(pub AtLeastOne<'a, I>);
 

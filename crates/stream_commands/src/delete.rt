@@ -1,4 +1,4 @@
-//! Entries that are deleted: XDEL and XDELEX.
+//! Deleting entries: XDEL and XDELEX.
 ghost use Rattle.std.specs.Prelude.{◌≡◌, ◌∷◌, ◌++◌, codes, decimal, length};
 ghost use Rattle.std.specs.List.{flat_map};
 ghost use Rattle.stream_commands.specs.NonEmpty.{all};
@@ -12,7 +12,7 @@ use redis_resp::ToSingleRedisArg;
 use redis_streams::XDelExStatusCode;
 use stream_options::StreamDeletionPolicy;
 
-/// `XDEL key id ..`: deletes these entries. The answer is how many there were.
+/// `XDEL key id ..`: deletes these entries. The reply is the number of entries deleted.
 ///
 /// ```text
 /// xdel("orders", AtLeastOne::one(&"1-0"))         // XDEL orders 1-0
@@ -26,7 +26,7 @@ pub fn xdel<'w, 'a, K: ToSingleRedisArg, I: ToSingleRedisArg>(
     Command::new((Word("XDEL"), key, ids))
 }
 
-/// `XDELEX key policy IDS n id ..`: deletes these entries as the policy says. The answer has a
+/// `XDELEX key policy IDS n id ..`: deletes these entries as the policy defines. The reply has a
 /// code for each id.
 ///
 /// ```text

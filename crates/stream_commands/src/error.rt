@@ -1,7 +1,7 @@
-//! Options that do not go with a command.
+//! Options that cannot be used with a command.
 use thiserror::Error;
 
-/// The options of a claim have `JUSTID`, so its answer would be ids alone and no entries.
+/// The options of a claim have `JUSTID`, so its reply would have only ids and no entries.
 #[derive(Clone, Copy, Debug, PartialEq, Eq, Error)]
 #[error("JUSTID is set: the answer would be ids alone, and no entries")]
 pub struct JustIdIsSet;

@@ -1,4 +1,4 @@
-//! The fields of an entry that is added.
+//! The fields of an added entry.
 ghost use Rattle.std.specs.Prelude.{◌≡◌, ◌++◌, ◌∷◌, [], refl, MatchOption, string_bytes};
 ghost use Rattle.stream_commands.specs.Fields.{AreFields, AreAnyFields, one_field, fields_joined};
 ghost use Rattle.stream_commands.specs.Fields.{any_fields, each_joined, those_set, then_fields};
@@ -9,10 +9,10 @@ use redis_resp::{PairList, RedisWrite, ToRedisArgs, ToSingleRedisArg, WriteError
 
 /// One field or more: a list of arguments in pairs, the name of a field and its value.
 ///
-/// A pair of single arguments is a field, and `AtLeastOne` of fields is fields. A type of your own
-/// joins by implementing `ToRedisArgs`, and by giving here the fields that its list is.
+/// A pair of single arguments is a field, and `AtLeastOne` of fields is fields. Your own type
+/// can implement `ToRedisArgs` and then this trait, with a proof of the fields that its list is.
 pub trait ToFieldArgs: ToRedisArgs {
-    /// The list of each value is of fields, and has one at least.
+    /// The list of each value consists of fields, at least one.
     ghost fields: { (x : Self) → AreFields (Self.args x) };
 }
 
@@ -28,9 +28,9 @@ impl<T: ToFieldArgs> ToFieldArgs for &T {
     ghost fields = { λ value. T.fields value.now };
 }
 
-/// Fields, of which there may be none: what stands in front of other fields.
+/// Fields, possibly none: they can be written before other fields.
 pub trait ToAnyFieldArgs: ToRedisArgs {
-    /// The list of each value is of fields, if it has any.
+    /// The list of each value consists of fields, if it is not empty.
     ghost any_fields: { (x : Self) → AreAnyFields (Self.args x) };
 }
 
@@ -39,7 +39,7 @@ impl<N: ToSingleRedisArg, V: ToSingleRedisArg> ToAnyFieldArgs for (N, V) {
         any_fields (one_field (N.args x.0) (V.args x.1) (N.single x.0) (V.single x.1)) };
 }
 
-/// The fields of an entry that was read, in their order.
+/// The fields of an entry that was read, in order.
 impl<V: ToSingleRedisArg> ToAnyFieldArgs for PairList<V> {
     ghost any_fields = { λ list. each_joined
         (λ pair. (string_bytes pair.0 ∷ []) ++ V.args pair.1)
@@ -59,8 +59,8 @@ impl<T: ToAnyFieldArgs> ToAnyFieldArgs for &T {
     ghost any_fields = { λ value. T.any_fields value.now };
 }
 
-/// Fields, if any, and fields behind them: so what is copied from an entry and what is said of it
-/// go into one.
+/// Fields, if any, followed by further fields: for example the fields copied from an entry, and
+/// fields about it.
 ///
 /// ```text
 /// xadd("dead", "*", FieldsThen(&entry, ("deliveries", times)))
@@ -81,8 +81,8 @@ impl<A: ToAnyFieldArgs, B: ToFieldArgs> ToFieldArgs for FieldsThen<A, B> {
         then_fields (A.args x.0) (B.args x.1) (A.any_fields x.0) (B.fields x.1) };
 }
 
-/// The fields of a list of pairs, such as the fields of an entry that was read; None where it has
-/// none, since no entry is added without a field.
+/// The fields of a list of pairs, such as the fields of an entry that was read; `None` if the list is
+/// empty, since no entry is added without a field.
 pub fn pair_fields<'a, V: ToSingleRedisArg>(
     list: &'a PairList<V>,
 ) -> Option<AtLeastOne<'a, (String, V)>>

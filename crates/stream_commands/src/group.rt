@@ -1,11 +1,11 @@
-//! Groups of consumers: XGROUP.
+//! Consumer groups: XGROUP.
 ghost use Rattle.std.specs.Prelude.{◌≡◌, [], ◌∷◌, ◌++◌, codes, decimal};
 
 use crate::command::{Command, Word};
 use redis_resp::ToSingleRedisArg;
 
-/// `XGROUP CREATE key group id`: makes a group that is given the entries behind `id`. The answer
-/// is `OK`; the server refuses where there is no stream.
+/// `XGROUP CREATE key group id`: creates a group that receives the entries after `id`. The reply
+/// is `OK`; the server refuses if the stream does not exist.
 ///
 /// ```text
 /// xgroup_create("orders", "g", "$")               // XGROUP CREATE orders g $
@@ -21,7 +21,7 @@ pub fn xgroup_create<'w, K: ToSingleRedisArg, G: ToSingleRedisArg, I: ToSingleRe
     Command::new((Word("XGROUP"), Word("CREATE"), key, (group, id)))
 }
 
-/// `XGROUP CREATE key group id MKSTREAM`: the same, and makes the stream where there is none.
+/// `XGROUP CREATE key group id MKSTREAM`: the same, and creates the stream if it does not exist.
 ///
 /// ```text
 /// xgroup_create_mkstream("orders", "g", "$")      // XGROUP CREATE orders g $ MKSTREAM
@@ -44,8 +44,8 @@ pub fn xgroup_create_mkstream<'w, K: ToSingleRedisArg, G: ToSingleRedisArg, I: T
     ))
 }
 
-/// `XGROUP CREATECONSUMER key group consumer`: makes a consumer. The answer is how many were made,
-/// 0 where the group has it.
+/// `XGROUP CREATECONSUMER key group consumer`: creates a consumer. The reply is the number created,
+/// 0 if the group already has it.
 ///
 /// ```text
 /// xgroup_createconsumer("orders", "g", "c")       // XGROUP CREATECONSUMER orders g c
@@ -66,7 +66,7 @@ pub fn xgroup_createconsumer<'w, K: ToSingleRedisArg, G: ToSingleRedisArg, C: To
     ))
 }
 
-/// `XGROUP SETID key group id`: the group is given the entries behind `id` from now on. The answer
+/// `XGROUP SETID key group id`: the group receives the entries after `id` from now on. The reply
 /// is `OK`.
 ///
 /// ```text
@@ -82,8 +82,8 @@ pub fn xgroup_setid<'w, K: ToSingleRedisArg, G: ToSingleRedisArg, I: ToSingleRed
     Command::new((Word("XGROUP"), Word("SETID"), key, (group, id)))
 }
 
-/// `XGROUP DESTROY key group`: removes a group and what is pending for it. The answer is how many
-/// groups were removed, 0 where there was none.
+/// `XGROUP DESTROY key group`: removes a group and its pending entries. The reply is the number of
+/// groups removed, 0 if it did not exist.
 ///
 /// ```text
 /// xgroup_destroy("orders", "g")                   // XGROUP DESTROY orders g
@@ -97,8 +97,8 @@ pub fn xgroup_destroy<'w, K: ToSingleRedisArg, G: ToSingleRedisArg>(
     Command::new((Word("XGROUP"), Word("DESTROY"), key, group))
 }
 
-/// `XGROUP DELCONSUMER key group consumer`: removes a consumer and what is pending for it. The
-/// answer is how many entries were pending.
+/// `XGROUP DELCONSUMER key group consumer`: removes a consumer and its pending entries. The
+/// reply is the number of entries that were pending.
 ///
 /// ```text
 /// xgroup_delconsumer("orders", "g", "c")          // XGROUP DELCONSUMER orders g c
@@ -114,9 +114,9 @@ pub fn xgroup_delconsumer<'w, K: ToSingleRedisArg, G: ToSingleRedisArg, C: ToSin
     Command::new((Word("XGROUP"), Word("DELCONSUMER"), key, (group, consumer)))
 }
 
-/// `XGROUP CREATE key group id ENTRIESREAD entries-read`: makes a group that is given the entries
-/// behind `id`, and tells the server how many entries stand up to there, so that it can tell the
-/// group's lag. The answer is `OK`; the server refuses where there is no stream.
+/// `XGROUP CREATE key group id ENTRIESREAD entries-read`: creates a group that receives the entries
+/// after `id`. The argument gives the number of entries up to there, so that the server can compute
+/// the group's lag. The reply is `OK`; the server refuses if the stream does not exist.
 ///
 /// ```text
 /// xgroup_create_entries_read("orders", "g", "3-0", 3)
@@ -146,8 +146,8 @@ pub fn xgroup_create_entries_read<
     ))
 }
 
-/// `XGROUP SETID key group id ENTRIESREAD entries-read`: the group is given the entries behind `id`
-/// from now on, and so many entries stand up to there. The answer is `OK`.
+/// `XGROUP SETID key group id ENTRIESREAD entries-read`: the group receives the entries after `id`
+/// from now on; the argument gives the number of entries up to there. The reply is `OK`.
 ///
 /// ```text
 /// xgroup_setid_entries_read("orders", "g", "0-0", 0)

@@ -1,4 +1,4 @@
-//! What is told of a stream: XINFO.
+//! Information about a stream: XINFO.
 ghost use Rattle.std.specs.Prelude.{◌≡◌, [], ◌∷◌, ◌++◌, codes, decimal};
 
 use crate::command::{Command, Word};
@@ -8,7 +8,7 @@ use redis_streams::{
     StreamInfoStreamReplyWithIdempotency,
 };
 
-/// `XINFO STREAM key`: what is told of the stream.
+/// `XINFO STREAM key`: information about the stream.
 ///
 /// ```text
 /// xinfo_stream("orders")                          // XINFO STREAM orders
@@ -21,7 +21,7 @@ pub fn xinfo_stream<'w, K: ToSingleRedisArg>(
     Command::new((Word("XINFO"), Word("STREAM"), key))
 }
 
-/// `XINFO STREAM key`: what is told of the stream, and how it tells entries that are sent twice.
+/// `XINFO STREAM key`: information about the stream, and how it recognizes entries that are sent twice.
 ///
 /// ```text
 /// xinfo_stream_with_idempotency("orders")         // XINFO STREAM orders
@@ -34,7 +34,7 @@ pub fn xinfo_stream_with_idempotency<'w, K: ToSingleRedisArg>(
     Command::new((Word("XINFO"), Word("STREAM"), key))
 }
 
-/// `XINFO GROUPS key`: what is told of the groups of the stream.
+/// `XINFO GROUPS key`: information about the groups of the stream.
 ///
 /// ```text
 /// xinfo_groups("orders")                          // XINFO GROUPS orders
@@ -47,7 +47,7 @@ pub fn xinfo_groups<'w, K: ToSingleRedisArg>(
     Command::new((Word("XINFO"), Word("GROUPS"), key))
 }
 
-/// `XINFO CONSUMERS key group`: what is told of the consumers of the group.
+/// `XINFO CONSUMERS key group`: information about the consumers of the group.
 ///
 /// ```text
 /// xinfo_consumers("orders", "g")                  // XINFO CONSUMERS orders g
@@ -62,7 +62,7 @@ pub fn xinfo_consumers<'w, K: ToSingleRedisArg, G: ToSingleRedisArg>(
 }
 
 /// `XINFO STREAM key FULL`: the stream with its first entries, its groups and their consumers, and
-/// with what is pending for each; of each list the first ten at most.
+/// the pending entries of each; at most the first ten of each list.
 ///
 /// ```text
 /// xinfo_stream_full("orders")                     // XINFO STREAM orders FULL
@@ -75,8 +75,8 @@ pub fn xinfo_stream_full<'w, K: ToSingleRedisArg>(
     Command::new((Word("XINFO"), Word("STREAM"), key, Word("FULL")))
 }
 
-/// `XINFO STREAM key FULL COUNT count`: the same, of each list the first `count` at most; all of
-/// them where it is 0.
+/// `XINFO STREAM key FULL COUNT count`: the same, with at most the first `count` of each list; all of
+/// them if it is 0.
 ///
 /// ```text
 /// xinfo_stream_full_count("orders", 100)          // XINFO STREAM orders FULL COUNT 100

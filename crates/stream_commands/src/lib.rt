@@ -1,13 +1,13 @@
-//! Whole stream commands of Redis, each with the type of its answer. It opens no connection.
+//! Whole stream commands of Redis, each with the type of its reply. It opens no connection.
 //!
 //! ```text
 //! let command = xlen("orders");                          // `XLEN orders`
 //! let args = command.to_redis_args(alloc)?;              // or into any `RedisWrite`
-//! let length = command.read(alloc, answer)?;             // the answer, as a `usize`
+//! let length = command.read(alloc, answer)?;             // the reply, as a `usize`
 //! ```
 //!
-//! Keys, groups, consumers and ids are of any type that is a single argument. A contract says the
-//! whole list of a command's arguments, as the documentation of the server writes it.
+//! Keys, groups, consumers and ids are of any type that is a single argument. A contract gives the
+//! whole list of a command's arguments, as in the documentation of the server.
 #![tactic(auto)]
 
 pub mod ack;

@@ -1,12 +1,12 @@
-//! Entries that were delivered and not yet acknowledged: XPENDING.
+//! Entries that were delivered and are not yet acknowledged: XPENDING.
 ghost use Rattle.std.specs.Prelude.{◌≡◌, [], ◌∷◌, ◌++◌, codes, decimal};
 
 use crate::command::{Command, Word};
 use redis_resp::ToSingleRedisArg;
 use redis_streams::{StreamPendingCountReply, StreamPendingReply};
 
-/// `XPENDING key group`: how many entries are pending for the group, the first and the last id, and
-/// for which consumers they are.
+/// `XPENDING key group`: the number of entries pending for the group, their first and last id, and
+/// their consumers.
 ///
 /// ```text
 /// xpending("orders", "g")                         // XPENDING orders g
@@ -45,7 +45,7 @@ pub fn xpending_count<
     Command::new((Word("XPENDING"), key, group, start, end, count))
 }
 
-/// `XPENDING key group start end count consumer`: the same, of those pending for this consumer.
+/// `XPENDING key group start end count consumer`: the same, for those pending for this consumer.
 ///
 /// ```text
 /// xpending_consumer_count("orders", "g", "-", "+", 10, "c")
@@ -72,8 +72,8 @@ pub fn xpending_consumer_count<
     Command::new((Word("XPENDING"), key, group, start, end, (count, consumer)))
 }
 
-/// `XPENDING key group IDLE ms start end count`: the same as `xpending_count`, of those that are
-/// pending for `min_idle` milliseconds.
+/// `XPENDING key group IDLE ms start end count`: the same as `xpending_count`, for those that are
+/// idle for at least `min_idle` milliseconds.
 ///
 /// ```text
 /// xpending_idle_count("orders", "g", 60000, "-", "+", 10)
@@ -106,7 +106,7 @@ pub fn xpending_idle_count<
     ))
 }
 
-/// `XPENDING key group IDLE ms start end count consumer`: the same, of those pending for this
+/// `XPENDING key group IDLE ms start end count consumer`: the same, for those pending for this
 /// consumer.
 ///
 /// ```text

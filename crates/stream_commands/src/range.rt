@@ -1,11 +1,11 @@
-//! Entries between two ids, and how many there are: XRANGE, XREVRANGE, XLEN.
+//! Entries between two ids, and the number of entries: XRANGE, XREVRANGE, XLEN.
 ghost use Rattle.std.specs.Prelude.{◌≡◌, [], ◌∷◌, ◌++◌, codes, decimal};
 
 use crate::command::{Command, Word};
 use redis_resp::ToSingleRedisArg;
 use redis_streams::StreamRangeReply;
 
-/// `XLEN key`: how many entries there are, 0 where there is no stream.
+/// `XLEN key`: the number of entries, 0 if the stream does not exist.
 ///
 /// ```text
 /// xlen("orders")                                  // XLEN orders
@@ -16,7 +16,7 @@ pub fn xlen<'w, K: ToSingleRedisArg>(key: K) -> Command<(Word<'w>, K), usize>
     Command::new((Word("XLEN"), key))
 }
 
-/// `XRANGE key start end`: the entries from `start` to `end`, both included, the first id first.
+/// `XRANGE key start end`: the entries from `start` to `end`, both included, in ascending order.
 ///
 /// ```text
 /// xrange("orders", "1-0", "+")                    // XRANGE orders 1-0 +
@@ -31,7 +31,7 @@ pub fn xrange<'w, K: ToSingleRedisArg, S: ToSingleRedisArg, E: ToSingleRedisArg>
     Command::new((Word("XRANGE"), key, start, end))
 }
 
-/// `XRANGE key - +`: all entries, the first id first.
+/// `XRANGE key - +`: all entries, in ascending order.
 ///
 /// ```text
 /// xrange_all("orders")                            // XRANGE orders - +
@@ -44,7 +44,7 @@ pub fn xrange_all<'w, K: ToSingleRedisArg>(
     Command::new((Word("XRANGE"), key, Word("-"), Word("+")))
 }
 
-/// `XRANGE key start end COUNT n`: the same as `xrange`, and at most `count` entries.
+/// `XRANGE key start end COUNT n`: the same as `xrange`, with at most `count` entries.
 ///
 /// ```text
 /// xrange_count("orders", "-", "+", 10)            // XRANGE orders - + COUNT 10
@@ -61,8 +61,8 @@ pub fn xrange_count<'w, K: ToSingleRedisArg, S: ToSingleRedisArg, E: ToSingleRed
     Command::new((Word("XRANGE"), key, start, end, Word("COUNT"), count))
 }
 
-/// `XREVRANGE key end start`: the entries from `end` back to `start`, both included, the last id
-/// first.
+/// `XREVRANGE key end start`: the entries from `end` back to `start`, both included, in descending
+/// order.
 ///
 /// ```text
 /// xrevrange("orders", "+", "1-0")                 // XREVRANGE orders + 1-0
@@ -77,7 +77,7 @@ pub fn xrevrange<'w, K: ToSingleRedisArg, E: ToSingleRedisArg, S: ToSingleRedisA
     Command::new((Word("XREVRANGE"), key, end, start))
 }
 
-/// `XREVRANGE key + -`: all entries, the last id first.
+/// `XREVRANGE key + -`: all entries, in descending order.
 ///
 /// ```text
 /// xrevrange_all("orders")                         // XREVRANGE orders + -
@@ -90,7 +90,7 @@ pub fn xrevrange_all<'w, K: ToSingleRedisArg>(
     Command::new((Word("XREVRANGE"), key, Word("+"), Word("-")))
 }
 
-/// `XREVRANGE key end start COUNT n`: the same as `xrevrange`, and at most `count` entries.
+/// `XREVRANGE key end start COUNT n`: the same as `xrevrange`, with at most `count` entries.
 ///
 /// ```text
 /// xrevrange_count("orders", "+", "-", 1)          // XREVRANGE orders + - COUNT 1

@@ -1,4 +1,4 @@
-//! Entries that are read from streams: XREAD and XREADGROUP.
+//! Reading entries from streams: XREAD and XREADGROUP.
 ghost use Rattle.std.specs.Prelude.{◌≡◌, ◌∷◌, ◌++◌, codes};
 ghost use Rattle.std.specs.List.{flat_map};
 ghost use Rattle.stream_commands.specs.NonEmpty.{all};
@@ -12,8 +12,8 @@ use redis_resp::ToSingleRedisArg;
 use redis_streams::StreamReadReply;
 use stream_options::StreamReadOptions;
 
-/// `XREAD STREAMS key .. id ..`: of each stream the entries behind its id. The answer is None
-/// where there are none.
+/// `XREAD STREAMS key .. id ..`: the entries after the given id of each stream. The reply is `None`
+/// if there are none.
 ///
 /// ```text
 /// xread(AtLeastOne::one(&("orders", "1-0")))      // XREAD STREAMS orders 1-0
@@ -28,9 +28,9 @@ pub fn xread<'w, 'a, K: ToSingleRedisArg, I: ToSingleRedisArg>(
     Command::new((Word("XREAD"), Word("STREAMS"), Streams(streams)))
 }
 
-/// `XREAD [options] STREAMS key .. id ..`, and `XREADGROUP` in place of `XREAD` exactly where the
-/// options have a group, which they write as `GROUP g c`: of each stream the entries behind its
-/// id. The answer is None where none came in time.
+/// `XREAD [options] STREAMS key .. id ..`: the entries after the given id of each stream. It is
+/// `XREADGROUP` instead of `XREAD` exactly if the options have a group, which they write as
+/// `GROUP g c`. The reply is `None` if none arrived in time.
 ///
 /// ```text
 /// let options = StreamReadOptions::default().count(10).group(alloc, "g", "c")?;

@@ -1,9 +1,9 @@
-//! The commands that ask replicas: WAIT and WAITAOF.
+//! The commands that wait for replicas: WAIT and WAITAOF.
 ghost use Rattle.std.specs.Prelude.{◌≡◌, ◌∷◌, [], codes, decimal};
 
 use crate::command::{Command, Word};
 
-/// `WAIT replicas milliseconds`: waits until this number of replicas acknowledged all earlier writes of this
+/// `WAIT replicas milliseconds`: waits until this number of replicas have acknowledged all earlier writes of this
 /// connection, or until the milliseconds elapsed; 0 is no limit. The reply is the number of replicas that acknowledged
 /// them. Fewer are not an error. In a MULTI the server does not wait.
 ///

@@ -1,11 +1,11 @@
-//! What a stream keeps of the entries that it was given: XSETID.
+//! What a stream records about its entries: XSETID.
 ghost use Rattle.std.specs.Prelude.{◌≡◌, [], ◌∷◌, ◌++◌, codes, decimal};
 
 use crate::command::{Command, Word};
 use redis_resp::ToSingleRedisArg;
 
-/// `XSETID key last-id`: the stream gives out ids behind `last_id` from now on. The answer is `OK`;
-/// the server refuses an id below that of the last entry, and where there is no stream.
+/// `XSETID key last-id`: the stream generates ids after `last_id` from now on. The reply is `OK`;
+/// the server refuses an id below that of the last entry, and refuses if the stream does not exist.
 ///
 /// ```text
 /// xsetid("orders", "9-0")                         // XSETID orders 9-0
@@ -19,8 +19,8 @@ pub fn xsetid<'w, K: ToSingleRedisArg, I: ToSingleRedisArg>(
     Command::new((Word("XSETID"), key, last_id))
 }
 
-/// `XSETID key last-id ENTRIESADDED entries-added MAXDELETEDID max-deleted-id`: the same, and how
-/// many entries were added in all, and which is the highest id of those deleted.
+/// `XSETID key last-id ENTRIESADDED entries-added MAXDELETEDID max-deleted-id`: the same, and sets the
+/// number of entries added in all, and the highest id of those deleted.
 ///
 /// ```text
 /// xsetid_entries_added("orders", "9-0", 9, "4-0")

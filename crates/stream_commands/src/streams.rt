@@ -1,4 +1,4 @@
-//! The streams that a read names.
+//! The streams of a read.
 ghost use Rattle.std.specs.Prelude.{◌≡◌, ◌++◌};
 ghost use Rattle.std.specs.List.{flat_map};
 ghost use Rattle.stream_commands.specs.NonEmpty.{NonEmpty, all};
@@ -6,8 +6,8 @@ ghost use Rattle.stream_commands.specs.NonEmpty.{NonEmpty, all};
 use crate::at_least_one::AtLeastOne;
 use redis_resp::{RedisWrite, ToRedisArgs, WriteError};
 
-/// Streams, each a key and the id behind which it is read: the keys of all, and then the ids of
-/// all, as `STREAMS` of a read wants them. So there are as many ids as keys.
+/// Streams, each a key and the id after which it is read: all keys, and then all ids,
+/// as `STREAMS` of a read expects them. So there are as many ids as keys.
 #[derive(Debug, Drop)]
 pub struct Streams<'a, K, I>(pub AtLeastOne<'a, (K, I)>);
 

@@ -1,4 +1,4 @@
-//! Streams that are cut: XTRIM.
+//! Trimming streams: XTRIM.
 ghost use Rattle.std.specs.Prelude.{◌≡◌, ◌∷◌, ◌++◌, codes};
 ghost use Rattle.stream_options.specs.Maxlen.{maxlen_sentence};
 ghost use Rattle.stream_options.specs.Trim.{trim_sentence};
@@ -8,7 +8,7 @@ use crate::command::{Command, Word};
 use redis_resp::ToSingleRedisArg;
 use stream_options::{StreamMaxlen, StreamTrimOptions};
 
-/// `XTRIM key MAXLEN mode n`: cuts the stream to this length. The answer is how many entries were
+/// `XTRIM key MAXLEN mode n`: trims the stream to this length. The reply is the number of entries
 /// removed.
 ///
 /// ```text
@@ -23,7 +23,7 @@ pub fn xtrim<'w, K: ToSingleRedisArg>(
     Command::new((Word("XTRIM"), key, maxlen))
 }
 
-/// `XTRIM key options`: cuts the stream as the options say. The answer is how many entries were
+/// `XTRIM key options`: trims the stream as the options define. The reply is the number of entries
 /// removed.
 ///
 /// ```text

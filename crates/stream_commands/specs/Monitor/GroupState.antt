@@ -1,11 +1,11 @@
--- What a tool shows of a group, by the reply to XINFO STREAM FULL and the time of the server's clock.
+-- What a tool shows about a group, by the reply to XINFO STREAM FULL and the time of the server's clock.
 use Rattle.std.specs.Prelude.{ℕ, ◌-◌, ◌&&◌, Bool, List, [], ◌∷◌, Option, Some, None, map, filter, fold, max, nat_le}
 use Rattle.std.specs.Prelude.{nat_lt, string_bytes}
 use Rattle.redis_streams.specs.InfoFull.{FullConsumer, FullGroup, FullPending}
 use Rattle.stream_commands.specs.declared.monitor.group_state.GroupState.{GroupState}
 
--- how many entries the group has still to read and how many are pending, for how long the oldest of these has been
--- idle, which were delivered too often, and which consumers left some
+-- the number of entries that the group has not read, the number of pending entries, the longest idle time of these,
+-- those delivered too often, and the consumers that have pending entries and are dead
 pub record State : Type 0 where
   pub lag : Option ℕ
   pub pending : ℕ
@@ -34,7 +34,7 @@ is_dead now silent c = nat_lt 0 c.pending_count && nat_le silent (now - c.seen_t
 abbrev pub dead_in : ℕ → ℕ → List FullConsumer → List (List ℕ)
 dead_in now silent consumers = map (λ c. c.name) (filter (is_dead now silent) consumers)
 
--- the state of a group at a time, for a number of deliveries and a time of silence
+-- the state of a group at a time, with the limits on the deliveries and on the time of silence
 abbrev pub state_of : ℕ → ℕ → ℕ → FullGroup → State
 state_of now times silent g = record {
   lag = g.lag;
@@ -44,7 +44,7 @@ state_of now times silent g = record {
   dead = dead_in now silent g.consumers;
 }
 
--- what a record says
+-- what a record means
 abbrev pub state_meaning : GroupState → State
 state_meaning s = record {
   lag = s.lag;

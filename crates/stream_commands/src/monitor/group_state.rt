@@ -7,25 +7,25 @@ ghost use Rattle.stream_commands.specs.Monitor.GroupState.{dead_in, longest_in, 
 use redis_streams::{StreamInfoFullConsumer, StreamInfoFullGroup, StreamInfoFullPending};
 use std::alloc::{AllocError, Global};
 
-/// What a tool shows of a group. Its pending entries are those of the reply: send XINFO with a `COUNT` of 0 for
+/// The state of a group for display. Its pending entries are those of the reply: send XINFO with a `COUNT` of 0 for
 /// all.
 #[derive(Debug, Drop)]
 pub struct GroupState {
-    /// How many entries the group has still to read, if the server knows.
+    /// The number of entries that the group has not read yet, if the server knows it.
     pub lag: Option<usize>,
-    /// How many entries are pending.
+    /// The number of pending entries.
     pub pending: usize,
-    /// For how many milliseconds the entry that is idle longest has been idle; None if none is
+    /// The longest time in milliseconds that a pending entry has been idle; `None` if none is
     /// pending.
     pub oldest_idle: Option<usize>,
     /// The ids of the pending entries that were delivered too often, in order.
     pub too_often: Vec<String>,
-    /// The names of the consumers that left entries pending, in order.
+    /// The names of the dead consumers that have pending entries, in order.
     pub dead: Vec<String>,
 }
 
-/// The state of a group at `now`, in milliseconds of the server's clock (TIME): too often is more
-/// than `times` times, and a consumer that has entries pending is dead once it has not been seen
+/// The state of a group at `now`, in milliseconds of the server's clock (TIME). Too often means more
+/// than `times` deliveries. A consumer with pending entries is dead once it has not been seen
 /// for `silent` milliseconds.
 pub fn group_state(
     alloc: Global,
@@ -46,7 +46,7 @@ pub fn group_state(
     })
 }
 
-/// For how long the entry that is idle longest has been idle. It takes no memory.
+/// The longest time that a pending entry has been idle. It allocates no memory.
 #[tactic(auto, using(crate::proofs::MonitorLemmas::GroupStateLemmas::oldest_none, crate::proofs::MonitorLemmas::GroupStateLemmas::oldest_some))]
 fn oldest_idle(pending: &[StreamInfoFullPending], now: usize) -> Option<usize>
     ensures { result ≡ oldest_in now (map full_pending_meaning pending.now) }
@@ -57,7 +57,7 @@ fn oldest_idle(pending: &[StreamInfoFullPending], now: usize) -> Option<usize>
     Some(longest_idle(pending, now))
 }
 
-/// The longest time that one of the entries has been idle, and 0 if there is none.
+/// The longest time that one of the entries has been idle; 0 if there is none.
 fn longest_idle(pending: &[StreamInfoFullPending], now: usize) -> usize
     ensures { result ≡ longest_in now (map full_pending_meaning pending.now) }
 {
@@ -86,7 +86,7 @@ fn too_often(
     Ok(ids)
 }
 
-/// The names of the consumers that have entries pending and were not seen for `silent`
+/// The names of the consumers that have pending entries and were not seen for `silent`
 /// milliseconds, in order.
 fn dead_consumers(
     alloc: Global,
