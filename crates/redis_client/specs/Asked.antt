@@ -7,7 +7,7 @@ use Rattle.redis_connection.specs.Ask.{Exchanges, HasNoAnswer}
 use Rattle.redis_connection.specs.Link.{Link}
 use Rattle.redis_connection.specs.declared.error.AskError.{AskError}
 
--- the command was sent, and a value came as its reply
+-- the command was sent, and its reply is a value
 abbrev pub IsAnswered : Link → Link → List (List ℕ) → Type 0
 IsAnswered old new args = (t : Tree) × Exchanges old new args (value t)
 

@@ -1,4 +1,4 @@
--- What a client of Redis Cluster computes by itself.
+-- What a client of Redis Cluster computes itself.
 pub mod Crc
 pub mod Division
 pub mod Split

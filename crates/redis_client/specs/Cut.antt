@@ -6,6 +6,6 @@ use Rattle.std.specs.List.{before_first}
 abbrev pub front : ℕ → List ℕ → List ℕ
 front byte bytes = before_first (λ b. b == byte) bytes
 
--- what is after it, if there is one
+-- the part after it, if there is one
 abbrev pub behind : ℕ → List ℕ → Option (List ℕ)
 behind byte bytes = option_map (λ place. drop (place + 1) bytes) (position (λ b. b == byte) bytes)

@@ -1,4 +1,4 @@
--- The commands that a connection begins with.
+-- The first commands of a connection.
 use Rattle.std.specs.Prelude.{ℕ, zero, suc, List, [], ◌∷◌, ◌++◌, Option, Some, None, codes, decimal}
 use Rattle.redis_client.specs.AddressMeaning.{Meaning}
 use Rattle.redis_client.specs.declared.address.Protocol.{Protocol}
@@ -19,7 +19,7 @@ abbrev pub name_words : Option (List ℕ) → List (List ℕ)
 name_words None = []
 name_words (Some name) = codes "SETNAME" ∷ name ∷ []
 
--- `HELLO 3 AUTH user password SETNAME name`, without the words of what is not set
+-- `HELLO 3 AUTH user password SETNAME name`, without the words of settings that are absent
 abbrev pub hello : Meaning → List (List ℕ)
 hello m = codes "HELLO" ∷ decimal 3 ∷ (login_words m.login ++ name_words m.name)
 
@@ -28,7 +28,7 @@ abbrev pub auth : List ℕ → List ℕ → List (List ℕ)
 auth [] password = codes "AUTH" ∷ password ∷ []
 auth (b ∷ user) password = codes "AUTH" ∷ (b ∷ user) ∷ password ∷ []
 
--- that, if anybody logs in
+-- that, if there are credentials
 abbrev pub login : Option (List ℕ × List ℕ) → List (List (List ℕ))
 login None = []
 login (Some l) = auth l.0 l.1 ∷ []
@@ -43,11 +43,11 @@ abbrev pub selection : ℕ → List (List (List ℕ))
 selection zero = []
 selection (suc n) = (codes "SELECT" ∷ decimal (suc n) ∷ []) ∷ []
 
--- what is asked of a protocol
+-- the first commands for a protocol
 abbrev pub beginning : Protocol → Meaning → List (List (List ℕ))
 beginning Resp3 m = hello m ∷ []
 beginning Resp2 m = login m.login ++ naming m.name
 
--- all that a connection begins with, in order
+-- all first commands of a connection, in order
 abbrev pub greeting : Meaning → List (List (List ℕ))
 greeting m = beginning m.protocol m ++ selection m.database

@@ -44,7 +44,7 @@ abbrev pub after_server : List ℕ → Next
 after_server text = if is_full text then Reconnect else after_code (code_of text)
 
 -- connect again after a connection broke or memory ran out; give up after a missing reply, or with a server that does
--- not speak the protocol
+-- support the protocol
 abbrev pub after_connection : ConnectionError → Next
 after_connection (errors.Write e) = Reconnect
 after_connection (errors.Read e) = Reconnect

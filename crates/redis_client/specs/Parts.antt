@@ -1,4 +1,4 @@
--- The parts of what is after `redis://`: LOGIN@HOST:PORT/DATABASE?SETTINGS, as they are written.
+-- The parts of the text after `redis://`: LOGIN@HOST:PORT/DATABASE?SETTINGS, still encoded.
 use Rattle.std.specs.Prelude.{ℕ, List, [], ◌∷◌, ◌==◌, if◌then◌else◌, Option, Some, None, option_map, unwrap_or}
 use Rattle.redis_client.specs.Cut.{behind, front}
 
@@ -22,13 +22,13 @@ login_in rest = option_map (λ _. front 64 (authority_in rest)) (behind 64 (auth
 abbrev pub place_in : List ℕ → List ℕ
 place_in rest = unwrap_or (behind 64 (authority_in rest)) (authority_in rest)
 
--- a host in brackets, and what is after them: nothing, or a colon and the port
+-- a host in brackets, and the rest after them: nothing, or a colon and the port
 abbrev pub in_brackets : List ℕ → Option (List ℕ) → Option (List ℕ × Option (List ℕ))
 in_brackets host None = None
 in_brackets host (Some []) = Some (host, None)
 in_brackets host (Some (b ∷ port)) = if b == 58 then Some (host, Some port) else None
 
--- the host, and the port if one is written; the host may be in brackets
+-- the host, and the port if one is given; the host may be in brackets
 abbrev pub host_and_port : List ℕ → Option (List ℕ × Option (List ℕ))
 host_and_port [] = Some ([], None)
 host_and_port (b ∷ rest) = if b == 91 then in_brackets (front 93 rest) (behind 93 rest)

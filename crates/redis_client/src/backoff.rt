@@ -1,25 +1,25 @@
-//! Pauses between tries, with exponential backoff.
+//! Pauses between attempts, with exponential backoff.
 ghost use Rattle.std.specs.Prelude.{◌≡◌, ◌≤◌, ◌*◌};
 ghost use Rattle.std.specs.Duration.{as_nanos};
 ghost use Rattle.redis_client.specs.Backoff.{IsAfterPause, limit_of, pause_of};
 
 use std::time::Duration;
 
-/// Pauses between tries that failed: each may be twice as long as the one before, up to a bound.
+/// Pauses between failed attempts: each may be twice as long as the one before, up to a bound.
 ///
-/// It reads no clock and draws no number: the caller hands in a random one and waits by itself.
+/// It reads no clock and generates no random number: the caller passes one and does the waiting.
 #[derive(Clone, Copy, Debug, PartialEq, Eq)]
 pub struct Backoff {
     /// The longest first pause, in milliseconds.
     pub first: u64,
     /// The longest pause, in milliseconds.
     pub most: u64,
-    /// How many pauses were made since the last reset.
+    /// The number of pauses since the last reset.
     pub pauses: u32,
 }
 
 impl Default for Backoff {
-    /// Half a second at first, and half a minute at most.
+    /// At first half a second, and at most half a minute.
     fn default() -> Backoff {
         Backoff::new(500, 30_000)
     }
@@ -37,7 +37,7 @@ impl Backoff {
         }
     }
 
-    /// The longest that the next pause may be, in milliseconds: `first` doubled for each pause that was made,
+    /// The upper bound of the next pause, in milliseconds: `first` doubled for each pause so far,
     /// but at most `most`.
     pub fn limit(&self) -> u64
         ensures { result ≡ limit_of self.now }
@@ -46,7 +46,7 @@ impl Backoff {
         self.first.saturating_mul(doubled).min(self.most)
     }
 
-    /// The next pause. The random number decides between half of `limit` and all of it.
+    /// Returns the next pause. The random number chooses it from half of `limit` to all of it.
     pub fn next_pause(&mut self, random: u64) -> Duration
         ensures pause { as_nanos result ≡ pause_of (limit_of self.old) random * 1_000_000 }
         ensures most { as_nanos result ≤ limit_of self.old * 1_000_000 }
@@ -59,7 +59,7 @@ impl Backoff {
         Duration::from_millis(pause)
     }
 
-    /// A try succeeded: the next pause is a first one.
+    /// Resets after an attempt that succeeded: the next pause is a first one.
     pub fn reset(&mut self)
         ensures { self.new ≡ record self.old { pauses = 0 } }
     {

@@ -1,5 +1,5 @@
-//! What a client of Redis Cluster computes by itself: the slot of a key, what an error of a node asks
-//! for, and the names of the partitions of a stream. Nothing here opens a connection.
+//! What a client of Redis Cluster computes itself: the slot of a key, the meaning of a node's error,
+//! and the names of the partitions of a stream. Nothing here opens a connection.
 
 mod bytes;
 mod crc;

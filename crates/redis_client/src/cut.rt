@@ -9,7 +9,7 @@ fn place_of(bytes: &[u8], byte: u8) -> Option<usize>
     bytes.iter().position(|b| *b == byte)
 }
 
-/// The part before the first such byte, or all if there is none, and what is after it.
+/// The part before the first such byte, or all if there is none, and the part after it.
 pub(crate) fn cut(bytes: &[u8], byte: u8) -> (&[u8], Option<&[u8]>)
     ensures front { result.0.now ≡ front byte bytes.now }
     ensures behind { option_map (λ rest. rest.now) result.1 ≡ behind byte bytes.now }

@@ -11,7 +11,7 @@ use std::alloc::Global;
 use std::io::{Read, Write};
 
 /// Sends the first commands of a new connection: `HELLO 3` with the login and the name, or `AUTH` and
-/// `CLIENT SETNAME`; and then `SELECT`, if the database is not 0. An error of the server ends it.
+/// `CLIENT SETNAME`; then `SELECT`, if the database is not 0. It stops at an error of the server.
 pub fn greet<R: Read + Drop, W: Write + Drop>(
     alloc: Global,
     connection: &mut Connection<R, W>,
@@ -30,7 +30,7 @@ pub fn greet<R: Read + Drop, W: Write + Drop>(
     ask_database(alloc, connection, address)
 }
 
-/// Sends one command, whose reply may be anything but an error.
+/// Sends one command. Any reply but an error will do.
 fn ask<R: Read + Drop, W: Write + Drop, T: ToRedisArgs>(
     alloc: Global,
     connection: &mut Connection<R, W>,
@@ -63,7 +63,7 @@ fn ask_hello<R: Read + Drop, W: Write + Drop>(
     ask(alloc, connection, &("HELLO", 3usize, login, name))
 }
 
-/// `AUTH`, if anybody logs in.
+/// `AUTH`, if there are credentials.
 fn ask_login<R: Read + Drop, W: Write + Drop>(
     alloc: Global,
     connection: &mut Connection<R, W>,

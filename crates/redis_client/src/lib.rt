@@ -1,5 +1,5 @@
 //! For a program that connects to a server: the address, the first commands of a connection, the pauses between
-//! tries, and what to do after an error. Nothing here opens a socket.
+//! attempts, and what to do after an error. Nothing here opens a socket.
 #![tactic(auto)]
 
 mod address;

@@ -13,7 +13,7 @@ pub enum Next {
     Reconnect,
     /// Pause, and send the same again: the error is temporary.
     Later,
-    /// End, and report the error: trying again does not help.
+    /// Exit, and report the error: a retry does not help.
     GiveUp,
 }
 

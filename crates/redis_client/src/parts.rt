@@ -1,4 +1,4 @@
-//! The parts of an address, as they are written.
+//! The parts of an address, still encoded.
 ghost use Rattle.std.specs.Prelude.{◌≡◌, option_map};
 ghost use Rattle.redis_client.specs.Parts.{database_in, host_and_port, login_in, place_in, settings_in};
 
@@ -38,7 +38,7 @@ pub(crate) fn parts_of(rest: &[u8]) -> Parts<'_>
     }
 }
 
-/// The host, and the port if one is written. An address of IPv6 is in brackets.
+/// The host, and the port if one is given. An IPv6 address is in brackets.
 pub(crate) fn host_and_port(place: &[u8]) -> Option<(&[u8], Option<&[u8]>)>
     ensures { option_map (λ x. (x.0.now, option_map (λ text. text.now) x.1)) result
         ≡ host_and_port place.now }

@@ -71,7 +71,7 @@ fn protocol_of(value: &[u8]) -> Result<Protocol, AddressError>
     }
 }
 
-/// The name of the connection. No setting may follow it.
+/// The name of the connection, percent-decoded. A `&` in it is refused.
 fn name_of(alloc: Global, value: &[u8]) -> Result<Vec<u8>, AddressError>
     ensures ok { IfOk result (λ name. name_of value.now (behind 38 value.now) ≡ Some name.items) }
     ensures err { IfErr result (λ e. (e ≡ AddressError.Memory)

@@ -1,4 +1,4 @@
-//! A connection over a socket that is open.
+//! A connection over an open socket.
 ghost use Rattle.std.specs.Prelude.{◌≢◌, IfErr};
 
 use redis_connection::{Connection, ConnectionError};
@@ -9,9 +9,9 @@ use std::io::{Read, Write};
 use std::net::OpenStream;
 use std::time::Duration;
 
-/// A connection over a stream that is open, such as a `TcpStream`. It sets TCP_NODELAY, and a read or a write
-/// that takes longer than `patience` fails. It has to be longer than `block` of a worker's settings, by as long
-/// as a busy server may take.
+/// A connection over an open stream, such as a `TcpStream`. It sets TCP_NODELAY, and a read or a write
+/// that takes longer than `patience` fails. `patience` has to be longer than `block` of a worker's settings, by
+/// the time that a busy server may need.
 pub fn connection_over<S: Read + Write + OpenStream + Drop>(
     alloc: Global,
     stream: S,

@@ -1,4 +1,4 @@
-//! Which node is the master of a slot, by the replies to CLUSTER SLOTS and CLUSTER SHARDS. Nothing here opens a
+//! The master of a slot, by the replies to CLUSTER SLOTS and CLUSTER SHARDS. Nothing here opens a
 //! connection.
 
 mod check;

@@ -2,21 +2,21 @@
 -- + x^5 + 1.
 use Rattle.std.specs.Prelude.{ℕ, zero, suc, ◌-◌, ◌*◌, ◌/◌, ◌%◌, ◌^◌, ◌==◌, if◌then◌else◌, List, bit_xor, fold}
 
--- One bit more: what was left is shifted by a place. The term x^16 is there if the highest bit was there or
--- the bit of the message is one, but not both; if so, the polynomial is taken away, of which 0x1021 is the rest.
+-- One bit more: the remainder is shifted by one bit. The term x^16 is present if the highest bit was set or
+-- the bit of the message is one, but not both. If so, the polynomial is subtracted; 0x1021 is its rest.
 unfoldable pub with_bit : ℕ → ℕ → ℕ
 with_bit crc bit = if crc / 0x8000 == bit then 2 * (crc % 0x8000) else bit_xor (2 * (crc % 0x8000)) 0x1021
 
--- the bit at a place of a byte, from the highest, at 0, to the lowest, at 7
+-- the bit at an index of a byte, from the highest, at 0, to the lowest, at 7
 abbrev pub bit_of : ℕ → ℕ → ℕ
 bit_of byte place = byte / 2 ^ (7 - place) % 2
 
--- the first bits of a byte more
+-- extended by the first bits of a byte
 unfoldable pub with_bits : ℕ → ℕ → ℕ → ℕ
 with_bits crc byte zero = crc
 with_bits crc byte (suc n) = with_bit (with_bits crc byte n) (bit_of byte n)
 
--- one byte more
+-- extended by one byte
 abbrev pub with_byte : ℕ → ℕ → ℕ
 with_byte crc byte = with_bits crc byte 8
 

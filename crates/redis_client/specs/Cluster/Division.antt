@@ -3,13 +3,13 @@ use Rattle.std.specs.Prelude.{◌≡◌, ℕ, ◌+◌, ◌*◌, ◌/◌, ◌%◌
 use Rattle.std.specs.List.{fold}
 use Rattle.redis_client.specs.Cluster.Crc.{bit_of, crc16}
 
--- The next bit is brought down beside what is left. If the term x^16 is there, the polynomial
--- x^16 + x^12 + x^5 + 1 is taken away.
+-- The next bit is brought down after the remainder. If the term x^16 is present, the polynomial
+-- x^16 + x^12 + x^5 + 1 is subtracted.
 unfoldable pub divided : ℕ → ℕ → ℕ
 divided left bit = if left / 0x8000 == 0 then 2 * (left % 0x8000) + bit
     else bit_xor (2 * (left % 0x8000) + bit) 0x1021
 
--- what is left of these bits, from the highest on
+-- the remainder of these bits, from the highest on
 abbrev pub remainder : List ℕ → ℕ
 remainder bits = fold divided 0 bits
 
@@ -22,6 +22,6 @@ bits_of byte = bit_of byte 0 ∷ bit_of byte 1 ∷ bit_of byte 2 ∷ bit_of byte
 abbrev pub sixteen_zeros : List ℕ
 sixteen_zeros = 0 ∷ 0 ∷ 0 ∷ 0 ∷ 0 ∷ 0 ∷ 0 ∷ 0 ∷ 0 ∷ 0 ∷ 0 ∷ 0 ∷ 0 ∷ 0 ∷ 0 ∷ 0 ∷ []
 
--- the checksum is what is left of the message times x^16
+-- the checksum is the remainder of the message times x^16
 abbrev pub ChecksumIsRemainder : Type 0
 ChecksumIsRemainder = (bytes : List ℕ) → crc16 bytes ≡ remainder (flat_map bits_of bytes ++ sixteen_zeros)

@@ -5,15 +5,15 @@ use Rattle.redis_client.specs.declared.cluster.reading.Place as places
 use Rattle.redis_client.specs.Cluster.Sentence.{Place, Other, try_again, cluster_down, loading, master_down, read_only, no_replicas}
 use Rattle.redis_client.specs.Cluster.Sentence.{Meaning, moved, ask, other}
 
--- the place that serves a slot
+-- the node that serves a slot
 abbrev pub place_of : places.Place → Place
 place_of p = record { slot = p.slot; host = p.host.now; port = p.port }
 
--- an error that names no place
+-- an error that names no node
 abbrev pub other_meaning : Other → Meaning
 other_meaning o = other o
 
--- what an error says
+-- the meaning of an error
 abbrev pub meaning_of : ClusterError → Meaning
 meaning_of (errors.Moved slot host port) = moved (record { slot = slot; host = host.now; port = port })
 meaning_of (errors.Ask slot host port) = ask (record { slot = slot; host = host.now; port = port })

@@ -8,7 +8,7 @@ use Rattle.redis_client.specs.Cluster.Split.{Lacks}
 abbrev pub partition_name : List ℕ → ℕ → List ℕ
 partition_name name partition = name ++ codes ":{" ++ decimal partition ++ codes "}"
 
--- The slot of a partition depends on its number alone, if the name has no `{`: the number is the hash tag.
+-- The slot of a partition depends only on its number, if the name has no `{`: the number is the hash tag.
 abbrev pub SlotsOfPartitions : Type 0
 SlotsOfPartitions = (name : List ℕ) (partition : ℕ) → Lacks 123 name → partition < 2 ^ 16
     → key_slot (partition_name name partition) ≡ crc16 (decimal partition) % 16384

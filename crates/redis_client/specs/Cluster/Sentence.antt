@@ -1,16 +1,16 @@
--- The texts of errors that speak of the cluster.
+-- The texts of errors that concern the cluster.
 use Rattle.std.specs.Prelude.{◌≡◌, ℕ, ◌<◌, ◌^◌, if◌then◌else◌, List, ◌∷◌, ◌++◌, codes, decimal, Option, Some, None}
 use Rattle.std.specs.Option.{option_map, unwrap_or}
 use Rattle.std.specs.Str.{bytes_eq}
 use Rattle.redis_client.specs.Cluster.Split.{split_first}
 
--- where a slot is served
+-- a slot, and the address of the node that serves it
 pub record Place : Type 0 where
   pub slot : ℕ
   pub host : List ℕ
   pub port : ℕ
 
--- an error that names no place
+-- an error that names no node
 pub data Other : Type 0 where
   try_again : Other
   cluster_down : Other
@@ -19,7 +19,7 @@ pub data Other : Type 0 where
   read_only : Other
   no_replicas : Other
 
--- what an error says
+-- the meaning of an error
 pub data Meaning : Type 0 where
   moved : Place → Meaning
   ask : Place → Meaning
@@ -37,7 +37,7 @@ place_text p = decimal p.slot ++ 32 ∷ (p.host ++ 58 ∷ decimal p.port)
 abbrev pub code_of : List ℕ → List ℕ
 code_of text = unwrap_or (option_map (λ x. x.0) (split_first 32 text)) text
 
--- the errors that are known by their code alone, whatever is after it
+-- the errors that are recognized by their code alone, whatever follows it
 unfoldable pub other_of : List ℕ → Option Other
 other_of code = if bytes_eq code (codes "TRYAGAIN") then Some try_again
     else if bytes_eq code (codes "CLUSTERDOWN") then Some cluster_down
@@ -47,18 +47,18 @@ other_of code = if bytes_eq code (codes "TRYAGAIN") then Some try_again
     else if bytes_eq code (codes "NOREPLICAS") then Some no_replicas
     else None
 
--- the text is a sentence that says this
+-- the text is an error with this meaning
 abbrev pub Says : Meaning → List ℕ → Type 0
 Says (moved p) text = IsPlace p × (text ≡ codes "MOVED " ++ place_text p)
 Says (ask p) text = IsPlace p × (text ≡ codes "ASK " ++ place_text p)
 Says (other o) text = other_of (code_of text) ≡ Some o
 
--- what a text says; and nothing exactly if it says none of this
+-- the meaning of a text; none exactly if the text has no meaning of this kind
 abbrev pub IsReadFrom : List ℕ → Option Meaning → Type 0
 IsReadFrom text (Some m) = Says m text
 IsReadFrom text None = (m : Meaning) → ¬ Says m text
 
--- the place that bytes name; and none exactly if they name none
+-- the slot and address in the bytes; none exactly if there is none
 abbrev pub IsPlaceIn : List ℕ → Option Place → Type 0
 IsPlaceIn bytes (Some p) = IsPlace p × (bytes ≡ place_text p)
 IsPlaceIn bytes None = (p : Place) → IsPlace p → ¬ (bytes ≡ place_text p)

@@ -4,8 +4,8 @@ use Rattle.redis_client.specs.declared.cluster.step.NextStep.TheVariants.{Connec
 use Rattle.redis_client.specs.Cluster.Sentence.{try_again, cluster_down, loading, master_down, read_only, no_replicas}
 use Rattle.redis_client.specs.Cluster.Sentence.{Meaning, moved, ask, other}
 
--- it goes to the node that the error names, for good or this once; it gives up if the node takes no
--- writes; and it waits in all other cases, which pass
+-- it connects to the node that the error names, for good or only this time; it gives up if the node accepts no
+-- writes; and it waits in all other cases, which are temporary
 abbrev pub next_step : Meaning → NextStep
 next_step (moved p) = Connect
 next_step (ask p) = AskOnce

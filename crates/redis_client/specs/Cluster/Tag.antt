@@ -1,9 +1,9 @@
--- What a key's slot depends on.
+-- The part of a key that its slot depends on.
 use Rattle.std.specs.Prelude.{◌≡◌, ◌≢◌, ℕ, List, [], ◌∷◌, ◌++◌}
 use Rattle.redis_client.specs.Cluster.Slot.{hashed}
 use Rattle.redis_client.specs.Cluster.Split.{Lacks}
 
--- The tag is in the key: between the first `{` and the first `}` after it, with a byte in it at least.
+-- The tag is in the key: between the first `{` and the first `}` after it, and has at least one byte.
 pub record HasTag (key tag : List ℕ) : Type 0 where
   pub front : List ℕ
   pub rest : List ℕ
@@ -12,10 +12,10 @@ pub record HasTag (key tag : List ℕ) : Type 0 where
   pub first_closing : Lacks 125 tag
   pub not_empty : tag ≢ []
 
--- the tag decides
+-- the tag determines the slot
 abbrev pub TagsDecide : Type 0
 TagsDecide = (key tag : List ℕ) → HasTag key tag → hashed key ≡ tag
 
--- a key with no tag decides as a whole
+-- a key with no tag determines the slot as a whole
 abbrev pub WholeKeysDecide : Type 0
 WholeKeysDecide = (key : List ℕ) → ((tag : List ℕ) → ¬ HasTag key tag) → hashed key ≡ key

@@ -8,7 +8,7 @@ use Rattle.redis_client.specs.declared.topology.error.TopologyError.TheVariants.
 use Rattle.redis_client.specs.declared.topology.range.SlotRange.{SlotRange}
 use Rattle.redis_client.specs.Topology.Topology.{Shard, ranges_in, is_past, is_reversed, all_apart}
 
--- out of memory, or no such reply
+-- an allocation failed, or the value is not such a reply
 abbrev pub cause_of : ParsingError → TopologyError
 cause_of parsing.Memory = Memory
 cause_of _ = NotSlots
@@ -21,7 +21,7 @@ FitsNot rs Reversed = list_any is_reversed rs ≡ true
 FitsNot rs Overlap = all_apart rs ≡ false
 FitsNot rs Memory = ⊤
 
--- why a reply is refused: it cannot be read, or its ranges cannot be those of one cluster, or memory ran out
+-- why a reply is refused: it cannot be read, or its ranges cannot be those of one cluster, or an allocation failed
 abbrev pub IsRefused : Option (List Shard) → TopologyError → Type 0
 IsRefused reply NotSlots = reply ≡ None
 IsRefused reply SlotPastLast = IsSomeAnd reply (λ shards. FitsNot (ranges_in shards) SlotPastLast)

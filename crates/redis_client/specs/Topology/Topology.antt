@@ -1,4 +1,4 @@
--- What the replies to CLUSTER SLOTS and CLUSTER SHARDS say, and which node is the master of a slot.
+-- The meaning of the replies to CLUSTER SLOTS and CLUSTER SHARDS, and the master of a slot.
 use Rattle.std.specs.Prelude.{◌≡◌, ℕ, ◌==◌, ◌&&◌, ◌||◌, not, nat_lt, nat_le, List, [], ◌∷◌, Bool, true, false, Option, Some}
 use Rattle.std.specs.Prelude.{None, option_map, option_and_then, unwrap_or, codes, if◌then◌else◌}
 use Rattle.std.specs.List.{find, flat_map, list_any}
@@ -20,7 +20,7 @@ pub record Node : Type 0 where
   pub port : ℕ
   pub role : Role
 
--- slots, and the nodes that have them
+-- slots, and the nodes that serve them
 pub record Shard : Type 0 where
   pub ranges : List SlotRange
   pub nodes : List Node
@@ -36,7 +36,7 @@ ranges_reading t = option_and_then (traverse range_reading) (pairs_in t)
 
 -- CLUSTER SLOTS
 
--- a node by its host, which nil leaves out, and its port
+-- a node by its host, which may be nil, and its port
 abbrev pub replica_of : List Tree → Option Node
 replica_of (host ∷ port ∷ more) =
     option_reading text_reading host >>= λ h.
@@ -79,7 +79,7 @@ abbrev pub role_of : List ℕ → Option Role
 role_of name = if bytes_eq name (codes "master") then Some Master
     else if bytes_eq name (codes "replica") then Some Replica else None
 
--- the port of the fields: that without TLS, if it is there
+-- the port of the fields: the one without TLS, if it is present
 abbrev pub port_in : Fields Tree → Option ℕ
 port_in fields = option_or (field_record (unsigned_reading 16) fields (codes "port"))
     (field_record (unsigned_reading 16) fields (codes "tls-port"))

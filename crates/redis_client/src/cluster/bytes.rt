@@ -19,7 +19,7 @@ fn place_of(bytes: &[u8], byte: u8) -> Option<usize>
     bytes.iter().position(|b| *b == byte)
 }
 
-/// The part before the first such byte, and what is after it.
+/// The part before the first such byte, and the part after it.
 pub(crate) fn split_first(bytes: &[u8], byte: u8) -> Option<(&[u8], &[u8])>
     ensures { option_map (λ x. (x.0.now, x.1.now)) result ≡ split_first byte bytes.now }
 {
@@ -27,7 +27,7 @@ pub(crate) fn split_first(bytes: &[u8], byte: u8) -> Option<(&[u8], &[u8])>
     Some((&bytes[..place], &bytes[place + 1..]))
 }
 
-/// The part before the last such byte, and what is after it.
+/// The part before the last such byte, and the part after it.
 pub(crate) fn split_last(bytes: &[u8], byte: u8) -> Option<(&[u8], &[u8])>
     ensures { IsSplitAtLast byte bytes.now (option_map (λ x. (x.0.now, x.1.now)) result) }
 {

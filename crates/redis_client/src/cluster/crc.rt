@@ -1,15 +1,15 @@
-//! The checksum that decides on the slot.
+//! The checksum that determines the slot.
 ghost use Rattle.std.specs.Prelude.{◌≡◌};
 ghost use Rattle.redis_client.specs.Cluster.Crc.{crc16, with_bit, with_byte};
 
-/// CRC-16/XMODEM of the bytes: the polynomial 0x1021 from 0 on, the highest bit of each byte first.
+/// CRC-16/XMODEM of the bytes: the polynomial 0x1021, initial value 0, the highest bit of each byte first.
 pub fn crc16(bytes: &[u8]) -> u16
     ensures { result ≡ crc16 bytes.now }
 {
     bytes.iter().fold(0, |crc, byte| with_byte(crc, *byte))
 }
 
-/// The checksum after one more byte.
+/// The checksum extended by one byte.
 #[tactic(auto, unfolding(crate::specs::Cluster::Crc::with_bits))]
 fn with_byte(crc: u16, byte: u8) -> u16
     ensures { result ≡ with_byte crc byte }
@@ -21,7 +21,7 @@ fn with_byte(crc: u16, byte: u8) -> u16
     crc
 }
 
-/// The checksum after one more bit.
+/// The checksum extended by one bit.
 #[tactic(auto, unfolding(crate::specs::Cluster::Crc::with_bit))]
 fn with_bit(crc: u16, bit: u8) -> u16
     ensures { result ≡ with_bit crc bit }

@@ -1,6 +1,6 @@
-//! What an error of a node says of the cluster.
+//! The errors of a node that concern the cluster.
 
-/// What an error of a node says of the cluster. The host is part of the text of the error.
+/// An error of a node that concerns the cluster. The host is part of the text of the error.
 #[derive(Clone, Copy, Debug, PartialEq, Eq)]
 pub enum ClusterError<'a> {
     /// `MOVED`: the slot is served by this node from now on.
@@ -12,7 +12,7 @@ pub enum ClusterError<'a> {
         /// The port, not 0.
         port: u16,
     },
-    /// `ASK`: the slot moves to this node, which serves the key already.
+    /// `ASK`: the slot is migrating to this node, which already serves the key.
     Ask {
         /// The slot, from 0 to 16,383.
         slot: u16,
@@ -21,16 +21,16 @@ pub enum ClusterError<'a> {
         /// The port, not 0.
         port: u16,
     },
-    /// `TRYAGAIN`: the keys of the command are on two nodes while their slot moves.
+    /// `TRYAGAIN`: the keys of the command are on two nodes while their slot migrates.
     TryAgain,
     /// `CLUSTERDOWN`: slots are not served.
     ClusterDown,
-    /// `LOADING`: the node reads its data from the disk.
+    /// `LOADING`: the node is loading its data from disk.
     Loading,
     /// `MASTERDOWN`: the node is a replica that has lost its master.
     MasterDown,
-    /// `READONLY`: the node is a replica, which takes no writes.
+    /// `READONLY`: the node is a replica, which accepts no writes.
     ReadOnly,
-    /// `NOREPLICAS`: too few replicas follow the node for it to take a write.
+    /// `NOREPLICAS`: the node has too few replicas to accept a write.
     NoReplicas,
 }

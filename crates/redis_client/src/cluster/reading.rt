@@ -1,4 +1,4 @@
-//! The error of a node, read from its text.
+//! Parses the text of a node's error.
 ghost use Rattle.std.specs.Prelude.{◌≡◌, option_map};
 ghost use Rattle.std.specs.Bool.{Decides};
 ghost use Rattle.redis_client.specs.Cluster.Sentence.{IsPlace, IsPlaceIn, IsReadFrom, code_of, other_of};
@@ -7,7 +7,7 @@ ghost use Rattle.redis_client.specs.Cluster.ErrorMeaning.{meaning_of, place_of, 
 use crate::cluster::bytes::{bytes_behind, number_in, split_first, split_last};
 use crate::cluster::error::ClusterError;
 
-/// Where a slot is served.
+/// The node that serves a slot.
 #[derive(Clone, Copy)]
 struct Place<'a> {
     slot: u16,
@@ -15,8 +15,8 @@ struct Place<'a> {
     port: u16,
 }
 
-/// What the error of a node says of the cluster; None if it says something else. The text is what
-/// is after `-` in the reply, such as `MOVED 3999 127.0.0.1:6381`. The port is after the last
+/// Parses the error of a node; `None` if it does not concern the cluster. The text is the part
+/// after `-` in the reply, such as `MOVED 3999 127.0.0.1:6381`. The port is after the last
 /// colon, so the host may be an IPv6 address.
 pub fn cluster_error(text: &[u8]) -> Option<ClusterError<'_>>
     ensures { IsReadFrom text.now (option_map meaning_of result) }
@@ -32,7 +32,7 @@ pub fn cluster_error(text: &[u8]) -> Option<ClusterError<'_>>
     error_of(code_in(text))
 }
 
-/// The part before the first space, or all if there is none.
+/// The part before the first space, or the whole text if there is none.
 fn code_in(text: &[u8]) -> &[u8]
     ensures { result.now ≡ code_of text.now }
 {

@@ -5,7 +5,7 @@ ghost use Rattle.redis_client.specs.Cluster.Slot.{hash_tag, key_slot};
 use crate::cluster::bytes::split_first;
 use crate::cluster::crc::crc16;
 
-/// The hash tag of a key: the part between its first `{` and the first `}` after that. None if a
+/// The hash tag of a key: the part between its first `{` and the first `}` after that. `None` if a
 /// brace is missing, or if nothing is between them.
 pub fn hash_tag(key: &[u8]) -> Option<&[u8]>
     ensures { option_map (λ tag. tag.now) result ≡ hash_tag key.now }

@@ -8,14 +8,14 @@ use crate::cluster::error::ClusterError;
 /// What a client does after an error of a node.
 #[derive(Clone, Copy, Debug, PartialEq, Eq)]
 pub enum NextStep {
-    /// Connect to the node that the error names, send the command there, and send what follows for this
+    /// Connect to the node that the error names, send the command there, and send later commands for this
     /// slot there as well.
     Connect,
-    /// Send `ASKING` and the command to the node that the error names, this once.
+    /// Send `ASKING` and the command to the node that the error names, only this time.
     AskOnce,
-    /// Wait a while, and send the command again.
+    /// Wait, and send the command again.
     Wait,
-    /// Give up on this node: it takes no writes, and trying again does not help.
+    /// Give up on this node: it accepts no writes, and a retry does not help.
     GiveUp,
 }
 

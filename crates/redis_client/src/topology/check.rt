@@ -1,4 +1,4 @@
-//! Whether ranges can be those of one cluster.
+//! Checks whether ranges can be those of one cluster.
 ghost use Rattle.std.specs.Prelude.{◌≡◌, IfOk, IfErr, map, true, false};
 ghost use Rattle.std.specs.List.{list_any};
 ghost use Rattle.redis_client.specs.Topology.Topology.{ranges_in, is_past, is_reversed, overlap};
@@ -78,7 +78,7 @@ fn ranges_in(alloc: Global, shards: &[Shard]) -> Result<Vec<SlotRange>, AllocErr
     Ok(ranges)
 }
 
-/// Refuses ranges that can't be those of one cluster.
+/// Refuses ranges that cannot be those of one cluster.
 fn check_ranges(ranges: &[SlotRange]) -> Result<(), TopologyError>
     ensures ok { IfOk result (λ _. Fits ranges.now) }
     ensures err { IfErr result (FitsNot ranges.now) }
@@ -96,7 +96,7 @@ fn check_ranges(ranges: &[SlotRange]) -> Result<(), TopologyError>
     }
 }
 
-/// Refuses shards whose ranges can't be those of one cluster.
+/// Refuses shards whose ranges cannot be those of one cluster.
 pub(crate) fn check_shards(alloc: Global, shards: &[Shard]) -> Result<(), TopologyError>
     ensures ok { IfOk result (λ _. Fits (ranges_in (map shard_meaning shards.now))) }
     ensures err { IfErr result (FitsNot (ranges_in (map shard_meaning shards.now))) }

@@ -6,7 +6,7 @@ use thiserror::Error;
 /// Why a reply was refused as a topology, or that memory ran out.
 #[derive(Debug, Drop, PartialEq, Eq, Error)]
 pub enum TopologyError {
-    /// The value is not such a reply. A slot or port above 65,535 is refused too.
+    /// The value is not such a reply, or has a slot or port above 65,535.
     #[error("not a reply of slots")]
     NotSlots,
     /// A slot is above 16,383.
@@ -18,7 +18,7 @@ pub enum TopologyError {
     /// A slot is in two ranges.
     #[error("a slot is in two ranges")]
     Overlap,
-    /// An allocation failed. It says nothing of the value.
+    /// An allocation failed; the value may be valid.
     #[error("out of memory")]
     Memory,
 }

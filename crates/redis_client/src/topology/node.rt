@@ -13,9 +13,9 @@ use std::collections::HashMap;
 /// The role of a node for the slots of its shard.
 #[derive(Clone, Copy, Debug, PartialEq, Eq)]
 pub enum Role {
-    /// It takes writes.
+    /// It accepts writes.
     Master,
-    /// It follows the master.
+    /// It replicates the master.
     Replica,
 }
 
@@ -30,7 +30,7 @@ pub struct Node {
     pub role: Role,
 }
 
-/// A replica that a row of CLUSTER SLOTS names: an array of a host, a port, and more.
+/// Parses a replica in a row of CLUSTER SLOTS: an array of a host, a port, and more.
 pub(crate) fn read_replica<S: Source>(alloc: Global, v: S) -> Result<Node, ParsingError>
     ensures ok { IfOk result (λ r. slots_node (S.seen v) ≡ Some (node_meaning r)) }
     ensures err { IfErr result (Refuses slots_node (λ _ _. ⊤) (S.seen v)) }
@@ -58,7 +58,7 @@ fn role_of(name: &str) -> Option<Role>
     }
 }
 
-/// The port of these fields: that without TLS, if it is there.
+/// The port of these fields: the one without TLS, if it is present.
 fn read_port(alloc: Global, fields: &HashMap<String, Value>) -> Result<Option<u16>, AllocError>
     ensures { IfOk result (λ port. port ≡ port_in (fields_of fields.now)) }
 {
@@ -68,7 +68,7 @@ fn read_port(alloc: Global, fields: &HashMap<String, Value>) -> Result<Option<u1
     field_of::<u16>(alloc, fields, "tls-port")
 }
 
-/// The node of a map of CLUSTER SHARDS.
+/// Parses a node of CLUSTER SHARDS, which is a map.
 fn read_node<S: Source>(alloc: Global, v: S) -> Result<Node, ParsingError>
     ensures ok { IfOk result (λ r. shards_node (S.seen v) ≡ Some (node_meaning r)) }
     ensures err { IfErr result (Refuses shards_node (λ _ _. ⊤) (S.seen v)) }
@@ -94,7 +94,7 @@ fn read_node<S: Source>(alloc: Global, v: S) -> Result<Node, ParsingError>
     })
 }
 
-/// Read from a node of CLUSTER SHARDS, by the names of its fields.
+/// Parsed from a node of CLUSTER SHARDS, by the names of its fields.
 impl FromRedisValue for Node {
     ghost Meaning = { maths.Node };
 

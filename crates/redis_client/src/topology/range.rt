@@ -16,7 +16,7 @@ use std::alloc::Global;
 pub struct SlotRange {
     /// The first slot.
     pub first: u16,
-    /// The last slot, which belongs to the range.
+    /// The last slot, which is part of the range.
     pub last: u16,
 }
 

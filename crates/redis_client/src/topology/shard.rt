@@ -11,7 +11,7 @@ use redis_resp::{FromRedisValue, ParsingError, Source, Value, field_of};
 use std::alloc::Global;
 use std::collections::HashMap;
 
-/// Slots, and the nodes that have them.
+/// Slots, and the nodes that serve them.
 #[derive(Debug, Drop)]
 pub struct Shard {
     /// The slots.
@@ -38,7 +38,7 @@ fn read_shard<S: Source>(alloc: Global, v: S) -> Result<Shard, ParsingError>
     })
 }
 
-/// Read from a shard of CLUSTER SHARDS, by the names of its fields.
+/// Parsed from a shard of CLUSTER SHARDS, by the names of its fields.
 impl FromRedisValue for Shard {
     ghost Meaning = { maths.Shard };
 

@@ -1,4 +1,4 @@
-//! Which node is the master of a slot.
+//! The master of each slot.
 ghost use Rattle.std.specs.Prelude.{◌≡◌, IfOk, IfErr, Some, map, option_map};
 ghost use Rattle.std.specs.List.{find};
 ghost use Rattle.redis_resp.specs.Value.{tree};
@@ -16,7 +16,7 @@ use crate::topology::shard::Shard;
 use redis_resp::{Value, from_redis_value};
 use std::alloc::Global;
 
-/// Which nodes serve which slots, by a reply of a node.
+/// The nodes that serve each slot, by a reply of a node.
 #[derive(Debug, Drop)]
 pub struct Topology {
     /// The shards, in the order of the reply.
@@ -24,7 +24,7 @@ pub struct Topology {
 }
 
 impl Topology {
-    /// Reads a reply to CLUSTER SLOTS: a shard for each row.
+    /// Parses a reply to CLUSTER SLOTS: a shard for each row.
     pub fn from_slots(alloc: Global, value: Value) -> Result<Topology, TopologyError>
         ensures ok { IfOk result (λ t. slots_reading (tree value) ≡ Some (shards_of t)) }
         ensures fits { IfOk result (λ t. Fits (ranges_in (shards_of t))) }
@@ -35,7 +35,7 @@ impl Topology {
         Ok(Topology { shards })
     }
 
-    /// Reads a reply to CLUSTER SHARDS.
+    /// Parses a reply to CLUSTER SHARDS.
     pub fn from_shards(alloc: Global, value: Value) -> Result<Topology, TopologyError>
         ensures ok { IfOk result (λ t. shards_reading (tree value) ≡ Some (shards_of t)) }
         ensures fits { IfOk result (λ t. Fits (ranges_in (shards_of t))) }
@@ -46,7 +46,7 @@ impl Topology {
         Ok(Topology { shards })
     }
 
-    /// The master of the slot. None if no shard has the slot, or if its master has no known host or
+    /// The master of the slot. `None` if no shard has the slot, or if its master has no known host or
     /// port.
     pub fn master_of(&self, slot: u16) -> Option<&Node>
         ensures { option_map (λ n. node_meaning n.now) result ≡ master_of (shards_of self.now) slot }
