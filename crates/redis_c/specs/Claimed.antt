@@ -17,13 +17,13 @@ pub record AutoClaimIn (place : AutoClaimPlace) (bytes : List ℕ) (len : ℕ) (
   pub is : IsAutoClaim default_limits bytes (autoclaim_in bytes held.entries held.fields place) len
   pub within : AreClaimPlaces bytes held.entries held.fields place
 
--- The same of ids alone.
+-- The same for ids only.
 pub record JustIdIn (place : AutoClaimPlace) (bytes : List ℕ) (len : ℕ) (held : Held) : Type 0 where
   pub all : place.len ≡ len
   pub is : IsJustId default_limits bytes (justid_in bytes held.entries place) len
   pub within : AreJustIdPlaces bytes held.entries place
 
--- The bytes begin with a reply of XAUTOCLAIM in the form in which servers write it, and there is room for the entries
+-- The bytes begin with a reply of XAUTOCLAIM in the form in which servers write it. There is room for the entries
 -- that were claimed, for the deleted ids after them, and for the fields.
 pub record AutoClaimFits (bytes : List ℕ) (entry_room field_room : ℕ) : Type 0 where
   pub sent : SentAutoClaim
@@ -32,7 +32,7 @@ pub record AutoClaimFits (bytes : List ℕ) (entry_room field_room : ℕ) : Type
   pub entries : length sent.claimed + length sent.deleted ≤ entry_room
   pub fields : length (all_fields sent.claimed) ≤ field_room
 
--- The same of ids alone.
+-- The same for ids only.
 pub record JustIdFits (bytes : List ℕ) (entry_room : ℕ) : Type 0 where
   pub sent : JustId
   pub len : ℕ

@@ -1,4 +1,4 @@
--- What is returned to C about the partitions of a stream.
+-- The result that C receives for the partitions of a stream.
 use Rattle.std.specs.Prelude.{ℕ, List}
 use Rattle.redis_client.specs.Cluster.Partition.{partition_name}
 use Rattle.redis_c.specs.Packing.{IsWritten}

@@ -13,7 +13,7 @@ use Rattle.redis_c.specs.declared.settings.AutoClaimSettings.{AutoClaimSettings}
 use Rattle.redis_c.specs.declared.settings.PendingSettings.{PendingSettings}
 use Rattle.redis_c.specs.Settings.{if_set, autoclaim_of}
 
--- how long a read waits and how much it reads
+-- how long a read blocks and how much it reads
 abbrev pub reading_of : ReadSettings → Read
 reading_of s = record default_read { block = if_set s.has_block s.block; count = if_set s.has_count s.count }
 
@@ -52,7 +52,7 @@ autoclaim_args key group consumer min_idle start count =
 abbrev pub pending_args : List ℕ → List ℕ → List ℕ → List ℕ → ℕ → List (List ℕ)
 pending_args key group start end count = codes "XPENDING" ∷ key ∷ group ∷ start ∷ end ∷ decimal count ∷ []
 
--- `XTRIM key MAXLEN = n`, or with `~` in place of `=`, if more entries may stay
+-- `XTRIM key MAXLEN = n`, or with `~` instead of `=`, if more entries may remain
 abbrev pub trim_args : List ℕ → Bool → ℕ → List (List ℕ)
 trim_args key approximate n =
     codes "XTRIM" ∷ key ∷ maxlen_sentence (record { mode = if approximate then approx else exact; count = n })

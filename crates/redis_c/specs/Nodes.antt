@@ -1,4 +1,4 @@
--- What is returned to C about the values of a reply.
+-- The result that C receives for the values of a reply.
 use Rattle.std.specs.Prelude.{◌≡◌, ◌≢◌, ◌<◌, ◌⊎◌, ◌++◌, ◌/◌, ℕ, List, [], length, Result, Ok, Err}
 use Rattle.redis_wire.specs.Decoded.{IsFirstFault}
 use Rattle.redis_wire.specs.Grammar.{IsReply}
@@ -22,14 +22,14 @@ nodes_code (Ok Incomplete) = 2
 nodes_code (Err errors.Memory) = 5
 nodes_code (Err (errors.Fault fault)) = code_of_fault fault
 
--- how many bytes the reply has
+-- the number of bytes of the reply
 abbrev pub nodes_len : Result Found WireError → ℕ
 nodes_len (Ok (Whole len count)) = len
 nodes_len (Ok (NoRoom len)) = len
 nodes_len (Ok Incomplete) = 0
 nodes_len (Err e) = 0
 
--- how many nodes there are, or are at most: no value has fewer than three bytes
+-- the number of nodes, or an upper bound: no value has fewer than three bytes
 abbrev pub nodes_count : Result Found WireError → ℕ
 nodes_count (Ok (Whole len count)) = count
 nodes_count (Ok (NoRoom len)) = len / 3
@@ -52,7 +52,7 @@ pub record AreNodesTold (bytes : List ℕ) (nodes : List Node) (code len count :
   pub len_is : len ≡ nodes_len found
   pub count_is : count ≡ nodes_count found
 
--- What has to be returned for bytes, unless memory runs out: that they end too early, if they are a proper beginning
+-- What has to be returned for bytes, unless memory runs out: that they end too early, if they are a proper prefix
 -- of a reply; the length of the reply that they begin with, and that the table holds its values or is too small; and
 -- a fault, if it is the first one in the bytes.
 pub record TellsNodes (bytes : List ℕ) (n len : ℕ) : Type 0 where

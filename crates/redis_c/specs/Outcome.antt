@@ -40,16 +40,16 @@ code (outcomes.Fault fault) = code_of_fault fault
 abbrev pub nowhere : Span
 nowhere = record { start = 0; len = 0 }
 
--- a reply of this length with this many places
+-- a reply of this length with this number of places
 abbrev pub of_counts : ℕ → Counts → Found
 of_counts len counts =
     record { len = len; streams = counts.streams; entries = counts.entries; fields = counts.fields; error = nowhere }
 
--- a reply of this length with no place but that of an error
+-- a reply of this length with no place except that of an error
 abbrev pub of_place : ℕ → Span → Found
 of_place len text = record { len = len; streams = 0; entries = 0; fields = 0; error = text }
 
--- what is returned to C beside the status code
+-- the values that C receives beside the status code
 abbrev pub found : Outcome → Found
 found (outcomes.InPlace len counts) = of_counts len counts
 found (outcomes.Room len counts) = of_counts len counts

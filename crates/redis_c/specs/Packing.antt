@@ -1,4 +1,4 @@
--- What is returned to C about a packed command.
+-- The result that C receives for a packed command.
 use Rattle.std.specs.Prelude.{◌≡◌, ◌<◌, ℕ, List, [], length, take, Option, Some, None}
 use Rattle.redis_wire.specs.Packed.{command_bytes}
 use Rattle.redis_wire.specs.PackedArgs.{IsTooLarge}
@@ -15,7 +15,7 @@ number packings.Outside = 7
 number packings.Nothing = 8
 number packings.Refused = 9
 
--- how many bytes were written, or are needed
+-- the number of bytes that were written, or are needed
 abbrev pub len_of : Packing → ℕ
 len_of (packings.Written len) = len
 len_of (packings.Room len) = len
@@ -39,7 +39,7 @@ IsPacking args out packings.Memory = Unit {0}
 IsPacking args out packings.TooLarge = IsTooLarge args
 IsPacking args out p = IsWritten (command_bytes args) out p
 
--- Of texts at places: a place is not within the bytes, or there is none of them, or the command of the
+-- Of texts at places: a place is outside the bytes, or there is no text, or the command of the
 -- texts is packed.
 abbrev pub IsPackingOf : {A : Type 0} → (List A → List (List ℕ)) → Option (List A) → List ℕ → Packing → Type 0
 IsPackingOf args texts out packings.Memory = Unit {0}
@@ -63,7 +63,7 @@ IsPackingBy args settings texts out packings.Refused = settings ≡ None
 IsPackingBy args None texts out p = ⊥
 IsPackingBy args (Some s) texts out p = IsPackingOf (args s) texts out p
 
--- The status code of packing is returned to C, and how many bytes were written or are needed.
+-- The status code of packing is returned to C, and the number of bytes that were written or are needed.
 pub record IsPackedAs (P : Packing → Type 0) (n count : ℕ) : Type 0 where
   pub packing : Packing
   pub told : n ≡ number packing

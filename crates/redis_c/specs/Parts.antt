@@ -21,7 +21,7 @@ first_place (place ∷ places) = place
 abbrev pub Asked : Type 0
 Asked = Option ℕ × (Option ℕ × (Bool × Option ℕ))
 
--- as the settings say
+-- as the settings define it
 abbrev pub asked_by : ReadSettings → Asked
 asked_by s = (if_set s.has_block s.block, (if_set s.has_count s.count, (s.noack, if_set s.has_claim s.claim)))
 
@@ -29,11 +29,11 @@ asked_by s = (if_set s.has_block s.block, (if_set s.has_count s.count, (s.noack,
 abbrev pub asked_of : ReadParts → Asked
 asked_of p = (p.block, (p.count, (p.noack, p.claim)))
 
--- a group by the names of it and of the consumer
+-- a group by its name and that of the consumer
 abbrev pub group_by : List ℕ × List ℕ → Option Group
 group_by names = Some (single_group names.0 names.1)
 
--- the group that is named, if one is; None if a name is not within the bytes
+-- the group that is given, if one is; `None` if a name is not within the bytes
 abbrev pub group_in : List ℕ → GroupPlace → Option (Option Group)
 group_in bytes place = if place.has_group
     then option_map group_by (both_read (text_at bytes place.group) (text_at bytes place.consumer)) else Some None

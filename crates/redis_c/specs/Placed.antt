@@ -10,14 +10,14 @@ use Rattle.stream_in_place.specs.declared.places.EntryPlace.{EntryPlace}
 abbrev pub text_at : List ℕ → Span → Option (List ℕ)
 text_at bytes place = if leb (place.start + place.len) (length bytes) then Some (text_in bytes place) else None
 
--- the texts at places; None if one is not within the bytes
+-- the texts at places; `None` if one is not within the bytes
 abbrev pub texts_at : List ℕ → List Span → Option (List (List ℕ))
 texts_at bytes = traverse (text_at bytes)
 
--- the ids at the places of entries; None if one is not within the bytes
+-- the ids at the places of entries; `None` if one is not within the bytes
 abbrev pub ids_at : List ℕ → List EntryPlace → Option (List (List ℕ))
 ids_at bytes = traverse (λ entry. text_at bytes entry.id)
 
--- the names and values at the places of fields; None if one is not within the bytes
+-- the names and values at the places of fields; `None` if one is not within the bytes
 abbrev pub fields_at : List ℕ → List FieldPlace → Option (List (List ℕ × List ℕ))
 fields_at bytes = traverse (λ field. both_read (text_at bytes field.name) (text_at bytes field.value))

@@ -1,4 +1,4 @@
--- Records of replies as C holds them: numbers, flags, and places in texts that were copied one after the other.
+-- Records of replies as C receives them: numbers, flags, and places in texts that were copied one after the other.
 use Rattle.std.specs.Prelude.{◌≡◌, ◌≢◌, ◌≤◌, ◌<◌, ◌⊎◌, ℕ, List, [], ◌∷◌, ◌++◌, length, take, flat_map, Option, Some, None}
 use Rattle.redis_resp.specs.Tree.{Tree}
 use Rattle.redis_wire.specs.declared.fault.Fault.{Fault}
@@ -39,7 +39,7 @@ AreAt Is [] (m ∷ ms) = ⊥
 AreAt Is (p ∷ ps) [] = ⊥
 AreAt Is (p ∷ ps) (m ∷ ms) = Is p m × AreAt Is ps ms
 
--- the record tells of this group
+-- the record describes this group
 pub record IsGroupAt (texts : List ℕ) (p : GroupRecord) (g : Group) : Type 0 where
   pub name : IsCopyAt texts p.name g.name
   pub last_delivered_id : IsCopyAt texts p.last_delivered_id g.last_delivered_id
@@ -52,7 +52,7 @@ pub record IsGroupAt (texts : List ℕ) (p : GroupRecord) (g : Group) : Type 0 w
 abbrev pub group_text : Group → List ℕ
 group_text g = g.name ++ g.last_delivered_id
 
--- the record tells of this pending entry
+-- the record describes this pending entry
 pub record IsPendingAt (texts : List ℕ) (p : PendingRecord) (e : PendingEntry) : Type 0 where
   pub id : IsCopyAt texts p.id e.id
   pub consumer : IsCopyAt texts p.consumer e.consumer
@@ -63,7 +63,7 @@ pub record IsPendingAt (texts : List ℕ) (p : PendingRecord) (e : PendingEntry)
 abbrev pub pending_text : PendingEntry → List ℕ
 pending_text e = e.id ++ e.consumer
 
--- the record tells of this consumer
+-- the record describes this consumer
 pub record IsConsumerAt (texts : List ℕ) (p : ConsumerRecord) (c : Consumer) : Type 0 where
   pub name : IsCopyAt texts p.name c.name
   pub pending : p.pending ≡ c.pending
@@ -72,7 +72,7 @@ pub record IsConsumerAt (texts : List ℕ) (p : ConsumerRecord) (c : Consumer) :
 abbrev pub consumer_text : Consumer → List ℕ
 consumer_text c = c.name
 
--- the records tell of something pending
+-- the records describe pending entries
 pub record IsFilledAt (texts : List ℕ) (p : SummaryRecord) (ps : List ConsumerRecord) (s : PendingSummary)
     : Type 0 where
   pub count : p.count ≡ s.count
@@ -80,18 +80,18 @@ pub record IsFilledAt (texts : List ℕ) (p : SummaryRecord) (ps : List Consumer
   pub end_id : IsCopyAt texts p.end_id s.end_id
   pub consumers : AreAt (IsConsumerAt texts) ps s.consumers
 
--- the records tell of what is pending; or that nothing is, and then their places are empty
+-- the records describe the pending entries; or there are none, and then their places are empty
 abbrev pub IsSummaryAt : List ℕ → SummaryRecord → List ConsumerRecord → Option PendingSummary → Type 0
 IsSummaryAt texts p consumers None =
     (p ≡ record { count = 0; start_id = nowhere; end_id = nowhere }) × (consumers ≡ [])
 IsSummaryAt texts p consumers (Some s) = IsFilledAt texts p consumers s
 
--- the texts of what is pending
+-- the texts of the pending entries
 abbrev pub summary_text : Option PendingSummary → List ℕ
 summary_text None = []
 summary_text (Some s) = s.start_id ++ (s.end_id ++ flat_map consumer_text s.consumers)
 
--- the consumers of what is pending
+-- the consumers of the pending entries
 abbrev pub summary_consumers : Option PendingSummary → List Consumer
 summary_consumers None = []
 summary_consumers (Some s) = s.consumers
@@ -104,7 +104,7 @@ records_code (records.Copied len records text) = 0
 records_code (records.Room len records text) = 1
 records_code (records.Unread outcome) = code outcome
 
--- what is returned to C beside the status code
+-- the values that C receives beside the status code
 abbrev pub records_found : Records → RecordsFound
 records_found (records.Copied len records text) =
     record { len = len; records = records; text = text; error = nowhere }
@@ -125,7 +125,7 @@ module _ {M : Type 0} (reading : Tree → Option M) (bytes : List ℕ) where
   HasNoRecord (value t) = reading t ≡ None
   HasNoRecord _ = Unit {0}
 
-  -- The first `len` bytes are a reply that is no error and has no record.
+  -- The first `len` bytes are a reply that is not an error and has no record.
   pub record IsUnreadAt (len : ℕ) : Type 0 where
     pub a : Answer
     pub answered : IsAnswered bytes len a
@@ -133,7 +133,7 @@ module _ {M : Type 0} (reading : Tree → Option M) (bytes : List ℕ) where
     pub no_record : HasNoRecord a
 
   -- If there is no record: the bytes end too early, or have a fault; an error of the server, wherever its text is; or
-  -- a reply of another shape, which is no error and has no record.
+  -- a reply of another shape, which is not an error and has no record.
   abbrev pub IsUnread : Outcome → Type 0
   IsUnread (outcomes.OtherShape len) = IsUnreadAt len
   IsUnread o = IsOther bytes o
@@ -210,14 +210,14 @@ HoldSummary summary consumers texts count text s = IsSummaryAt (take text texts)
 abbrev pub IsOrMemory : ℕ → ℕ → Type 0
 IsOrMemory n code = (code ≡ n) ⊎ (code ≡ 5)
 
--- What has to be returned for bytes, unless memory runs out: that they end too early, if they are a proper beginning
+-- What has to be returned for bytes, unless memory runs out: that they end too early, if they are a proper prefix
 -- of a reply; an error of the server, if they begin with one; and a fault, if it is the first one in the bytes.
 pub record TellsReplies (bytes : List ℕ) (n : ℕ) : Type 0 where
   pub early : (more : List ℕ) (a : Answer) → more ≢ [] → IsReply default_limits (bytes ++ more) a → IsOrMemory 2 n
   pub error : (text rest e : List ℕ) → IsReply default_limits text (refused e) → bytes ≡ text ++ rest → IsOrMemory 3 n
   pub fault : (f : Fault) → IsFirstFault default_limits bytes (errors.Fault f) → IsOrMemory (code_of_fault f) n
 
--- The same of a call that finds entries, whose replies may have any number of values.
+-- The same for a call that finds entries, whose replies may have any number of values.
 pub record TellsFinding (bytes : List ℕ) (n : ℕ) : Type 0 where
   pub early : (more : List ℕ) (a : Answer) → more ≢ [] → IsReply default_limits (bytes ++ more) a → IsOrMemory 2 n
   pub error : (text rest e : List ℕ) → IsReply default_limits text (refused e) → bytes ≡ text ++ rest → IsOrMemory 3 n

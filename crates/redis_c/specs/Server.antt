@@ -1,4 +1,4 @@
--- What is returned to a server about the options of a command.
+-- The result that a server receives for the options of a command.
 use Rattle.std.specs.Prelude.{◌≡◌, ℕ, List, Option, Some, None, option_map, if◌then◌else◌}
 use Rattle.redis_resp.specs.Reading.{both_read}
 use Rattle.stream_options.specs.Read.{Read}
@@ -17,7 +17,7 @@ reading_number readings.Memory = 5
 reading_number readings.Outside = 7
 reading_number readings.NoOptions = 10
 
--- how many arguments are the options
+-- the number of arguments of the options
 abbrev pub reading_count : Reading → ℕ
 reading_count (readings.Options count) = count
 reading_count readings.Memory = 0
@@ -28,7 +28,7 @@ reading_count readings.NoOptions = 0
 abbrev pub read_for : ReadSettings → List ℕ × List ℕ → Read
 read_for s names = read_of s names.0 names.1
 
--- the settings of a read, for a consumer of a group if one is named
+-- the settings of a read, for a consumer of a group if one is given
 abbrev pub read_in : List ℕ → ReadSettings → GroupPlace → Option Read
 read_in bytes s place = if place.has_group
     then option_map (read_for s) (both_read (text_at bytes place.group) (text_at bytes place.consumer))
@@ -36,8 +36,8 @@ read_in bytes s place = if place.has_group
 
 module _ {T : Type 0} (Fits : T → Type 0) (sentence : T → List (List ℕ)) (words : List (List ℕ))
     (Alike : T → T → Type 0) (texts : Option (List (List ℕ))) (meant : Option T) where
-  -- The outcome of parsing: the settings are the options at the front, and the number of their arguments; memory ran
-  -- out; a place is not within the bytes; or there are no options at the front.
+  -- The outcome of parsing: the settings are the options at the start, and the number of their arguments; memory ran
+  -- out; a place is outside the bytes; or there are no options at the start.
   abbrev pub IsReading : Reading → Type 0
   IsReading (readings.Options k) =
       (args : List (List ℕ)) × (texts ≡ Some args) × (settings : T) × (meant ≡ Some settings)
@@ -46,7 +46,7 @@ module _ {T : Type 0} (Fits : T → Type 0) (sentence : T → List (List ℕ)) (
   IsReading readings.Outside = texts ≡ None
   IsReading readings.NoOptions = (args : List (List ℕ)) × (texts ≡ Some args) × HasNoSplit Fits sentence words args
 
--- The status code of parsing is returned to C, and how many arguments the options are.
+-- The status code of parsing is returned to C, and the number of arguments of the options.
 pub record IsReadAs (P : Reading → Type 0) (n count : ℕ) : Type 0 where
   pub reading : Reading
   pub told : n ≡ reading_number reading

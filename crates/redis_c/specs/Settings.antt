@@ -32,16 +32,16 @@ utf8_at bytes place = option_and_then if_utf8 (text_at bytes place)
 
 -- ---- trimming
 
--- the policy of the number for deleted entries in the pending lists of groups; None if there is no such policy
+-- the policy of the number for deleted entries in the pending lists of groups; `None` if there is no such policy
 abbrev pub policy_by : ℕ → Option (Option Policy)
 policy_by n = if nat_eq n 0 then Some None else if nat_eq n 1 then Some (Some keep_ref)
     else if nat_eq n 2 then Some (Some del_ref) else if nat_eq n 3 then Some (Some acked) else None
 
--- `~` if more entries may stay, and otherwise `=`
+-- `~` if more entries may remain, and otherwise `=`
 abbrev pub mode_by : Bool → Mode
 mode_by approximate = if approximate then approx else exact
 
--- the bound; None if the number names none, or the id is not a text within the bytes
+-- the bound; `None` if the number names none, or the id is not a text within the bytes
 abbrev pub bound_in : List ℕ → TrimSettings → Option Bound
 bound_in bytes s = if nat_eq s.bound 1 then Some (max_len (mode_by s.approximate) s.maxlen)
     else if nat_eq s.bound 2 then option_map (min_id (mode_by s.approximate)) (utf8_at bytes s.minid) else None
@@ -127,12 +127,12 @@ autoclaim_of s = record { count = if_set s.has_count s.count; justid = s.justid 
 
 -- ---- for the functions within
 
--- an error says that the settings are invalid, or that memory ran out
+-- an error means that the settings are invalid, or that memory ran out
 abbrev pub Fails : {Y : Type 0} → Unset → Option Y → Type 0
 Fails Memory meant = Unit {0}
 Fails Refused meant = meant ≡ None
 
--- what a function returns, seen by view, is what is meant, unless memory ran out
+-- the result of a function, seen by view, is what is meant, unless memory ran out
 abbrev pub Makes : {X Y : Type 0} → (X → Y) → Result X Unset → Option Y → Type 0
 Makes view (Ok x) meant = meant ≡ Some (view x)
 Makes view (Err e) meant = Fails e meant

@@ -1,4 +1,4 @@
-//! The settings of XADD, from those that C passes.
+//! The settings of XADD, from the values that C passes.
 ghost use Rattle.std.specs.Prelude.{option_map};
 ghost use Rattle.stream_options.specs.View.{idempotency_of};
 ghost use Rattle.redis_c.specs.Settings.{idempotency_in, add_in, Makes};

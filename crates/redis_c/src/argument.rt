@@ -3,7 +3,7 @@ ghost use Rattle.std.specs.Prelude.{[], ◌∷◌, refl};
 
 use redis_resp::{RedisWrite, ToRedisArgs, ToSingleRedisArg, WriteError};
 
-/// Bytes that are one argument as they are.
+/// Bytes that are one argument, unchanged.
 #[derive(Clone, Copy, Drop)]
 pub struct Argument<'a>(pub &'a [u8]);
 

@@ -11,7 +11,7 @@ use std::alloc::Global;
 use stream_commands::{AtLeastOne, xack, xadd, xclaim};
 use stream_in_place::{EntryPlace, FieldPlace};
 
-/// The outcome if there are no arguments.
+/// The outcome if the arguments could not be read.
 pub fn of_unplaced(unplaced: Unplaced) -> Packing
     ensures memory { unplaced ≡ Unplaced.Memory → result ≡ Packing.Memory }
     ensures outside { unplaced ≡ Unplaced.Outside → result ≡ Packing.Outside }

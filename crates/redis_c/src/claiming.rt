@@ -1,4 +1,4 @@
-//! The settings of claims, from those that C passes.
+//! The settings of claims, from the values that C passes.
 ghost use Rattle.std.specs.Prelude.{◌≡◌, string_bytes, option_map};
 ghost use Rattle.redis_c.specs.Settings.{if_set, lastid_in, claim_in, autoclaim_of, Makes};
 

@@ -1,4 +1,4 @@
-//! Entries and ids that XAUTOCLAIM claimed, in place, in tables of the caller.
+//! Entries and ids that XAUTOCLAIM claimed, located in place, in tables of the caller.
 ghost use Rattle.std.specs.Prelude.{◌≡◌, ◌+◌, [], ℕ, length};
 ghost use Rattle.redis_wire.specs.Limits.{default_limits};
 ghost use Rattle.stream_entries.specs.JustId.{JustId};
@@ -18,7 +18,7 @@ use stream_in_place::{
     AutoClaimPlace, EntryPlace, EntryTables, EntryTape, FieldPlace, find_autoclaim, find_justid,
 };
 
-/// How much room the reply of XAUTOCLAIM needs.
+/// The room that the reply of XAUTOCLAIM needs.
 fn autoclaim_room(alloc: Global, bytes: &[u8], room: Counts, claim: &mut AutoClaimPlace) -> Outcome
     ensures is { IsRoom (AutoClaimIn claim.new) bytes.now room result }
     ensures rows { (most : ℕ) (r : SentAutoClaim) (len : ℕ) → BeginsWithAutoClaim default_limits bytes.now r len
@@ -39,7 +39,7 @@ fn autoclaim_room(alloc: Global, bytes: &[u8], room: Counts, claim: &mut AutoCla
     }
 }
 
-/// How much room the reply of XAUTOCLAIM with JUSTID needs.
+/// The room that the reply of XAUTOCLAIM with JUSTID needs.
 fn justid_room(alloc: Global, bytes: &[u8], room: Counts, claim: &mut AutoClaimPlace) -> Outcome
     ensures is { IsRoom (JustIdIn claim.new) bytes.now room result }
     ensures rows { (most : ℕ) (r : JustId) (len : ℕ) → BeginsWithJustId default_limits bytes.now r len

@@ -46,7 +46,7 @@ pub extern "C" fn redis_partition_of(record_key: &[u8], number: usize, partition
     }
 }
 
-/// Writes the name of a partition to the front of the buffer.
+/// Writes the name of a partition to the start of the buffer.
 fn named(alloc: Global, name: &[u8], partition: u16, out: &mut [u8]) -> Packing
     ensures { IsNaming name.now partition out.new result }
 {

@@ -14,7 +14,7 @@ pub const OTHER: u32 = 4;
 pub const MEMORY: u32 = 5;
 /// An argument has 2^32 bytes or more.
 pub const TOO_LARGE: u32 = 6;
-/// A place is not within the bytes.
+/// A place is outside the bytes.
 pub const OUTSIDE: u32 = 7;
 /// No entry, field or stream was passed, and the server needs one.
 pub const NOTHING: u32 = 8;
@@ -51,7 +51,7 @@ pub const FAULT_NOT_UTF8: u32 = 26;
 pub const FAULT_BAD_VERBATIM: u32 = 27;
 /// Not a push.
 pub const FAULT_BAD_PUSH: u32 = 28;
-/// No call here returns it.
+/// No call of this crate returns it.
 pub const FAULT_OVERFULL: u32 = 29;
 /// More than 16,777,216 values.
 pub const FAULT_TOO_MANY: u32 = 30;

@@ -17,15 +17,15 @@ use stream_options::{StreamMaxlen, StreamReadOptions};
 pub struct ReadSettings {
     /// Whether at most `count` entries are read.
     pub has_count: bool,
-    /// Whether the read waits for entries.
+    /// Whether the read blocks until there are entries.
     pub has_block: bool,
-    /// Whether what is read needs no acknowledgement.
+    /// Whether the entries that are read need no acknowledgement.
     pub noack: bool,
     /// Whether entries that are idle for `claim` milliseconds are claimed and read first.
     pub has_claim: bool,
     /// The limit on entries.
     pub count: usize,
-    /// The milliseconds that it waits; 0 to wait without a limit.
+    /// The number of milliseconds that it blocks; 0 is no limit.
     pub block: usize,
     /// In milliseconds.
     pub claim: usize,
@@ -174,7 +174,7 @@ pub extern "C" fn redis_xpending(
     packed(alloc, &command, out).tell(len)
 }
 
-/// Packs `XTRIM key MAXLEN = n`, or with `~` in place of `=`, if more entries may stay.
+/// Packs `XTRIM key MAXLEN = n`, or with `~` instead of `=`, if more entries may remain.
 #[unsafe(no_mangle)]
 pub extern "C" fn redis_xtrim(
     alloc: Global,

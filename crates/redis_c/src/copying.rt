@@ -1,4 +1,4 @@
-//! Records of replies as plain ones: their texts are copied, one after the other, and each becomes a place.
+//! Records of replies as plain records: their texts are copied one after the other, and each becomes a place.
 ghost use Rattle.std.specs.Prelude.{◌≡◌, ◌++◌, flat_map, map, IfOk};
 ghost use Rattle.redis_streams.specs.InfoMeaning.{consumer_meaning, group_meaning};
 ghost use Rattle.redis_streams.specs.PendingMeaning.{pending_id_meaning, pending_meaning};
@@ -154,7 +154,7 @@ pub fn put_summary(
     }
 }
 
-/// The summary if nothing is pending.
+/// The summary if no entry is pending.
 fn nothing_pending() -> SummaryRecord
     ensures { result ≡ record { count = 0; start_id = nowhere; end_id = nowhere } }
 {

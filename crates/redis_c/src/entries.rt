@@ -1,4 +1,4 @@
-//! Entries in place, in tables of the caller.
+//! Entries located in place, in tables of the caller.
 ghost use Rattle.std.specs.Prelude.{◌≡◌, [], ℕ, List, false, length};
 ghost use Rattle.redis_wire.specs.Limits.{default_limits};
 ghost use Rattle.stream_in_place.specs.Sent.{SentEntry, SentStream, all_fields, all_entries, all_stream_fields};
@@ -16,7 +16,7 @@ use stream_in_place::{
     EntryPlace, EntryTables, EntryTape, FieldPlace, Places, StreamPlace, find_range, find_streams,
 };
 
-/// How many places there are.
+/// The number of places in each table.
 pub fn counts_of<P: Places>(places: &P) -> Counts
     ensures { HasCounts result (P.held places.now) }
 {
@@ -27,7 +27,7 @@ pub fn counts_of<P: Places>(places: &P) -> Counts
     }
 }
 
-/// How many places the tables have room for.
+/// The number of places that each table has room for.
 pub fn room_of(streams: usize, entries: usize, fields: usize) -> Counts
     ensures { result ≡ room_of streams entries fields }
 {
@@ -38,7 +38,7 @@ pub fn room_of(streams: usize, entries: usize, fields: usize) -> Counts
     }
 }
 
-/// How much room the entries of a range need.
+/// The room that the entries of a range need.
 fn range_room(alloc: Global, bytes: &[u8], room: Counts) -> Outcome
     ensures is { IsRoom RangeIn bytes.now room result }
     ensures rows { (most : ℕ) (es : List SentEntry) (len : ℕ) → BeginsWithRange default_limits bytes.now es len
@@ -54,7 +54,7 @@ fn range_room(alloc: Global, bytes: &[u8], room: Counts) -> Outcome
     }
 }
 
-/// How much room the streams of a read need.
+/// The room that the streams of a read need.
 fn streams_room(alloc: Global, bytes: &[u8], room: Counts) -> Outcome
     ensures is { IsRoom StreamsIn bytes.now room result }
     ensures rows { (most : ℕ) (ss : List SentStream) (len : ℕ) → BeginsWithStreams default_limits false bytes.now ss len

@@ -27,7 +27,7 @@ fn packed_create(
     }
 }
 
-/// Packs `XGROUP CREATE key group id`, with `MKSTREAM` if a stream that does not exist is created.
+/// Packs `XGROUP CREATE key group id`, with `MKSTREAM` if a missing stream is created.
 #[unsafe(no_mangle)]
 pub extern "C" fn redis_xgroup_create(
     alloc: Global,

@@ -1,4 +1,4 @@
-//! Commands that inspect a stream, its groups and what is pending, packed into a buffer of the caller.
+//! Commands that inspect a stream, its groups and pending entries, packed into a buffer of the caller.
 ghost use Rattle.std.specs.Prelude.{◌≡◌};
 ghost use Rattle.redis_c.specs.Packing.{IsPacking, IsPackedAs};
 ghost use Rattle.redis_c.specs.Commands.{info_stream_args, info_groups_args, info_consumers_args};
@@ -50,7 +50,7 @@ pub extern "C" fn redis_xinfo_consumers(
     packed(alloc, &command, out).tell(len)
 }
 
-/// Packs `XPENDING key group`: how many entries are pending for the group, and for which consumers.
+/// Packs `XPENDING key group`: the number of entries pending for the group, and their consumers.
 #[unsafe(no_mangle)]
 pub extern "C" fn redis_xpending_summary(
     alloc: Global,

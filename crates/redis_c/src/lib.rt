@@ -1,7 +1,7 @@
 //! A static library for C and other languages: stream replies parsed in place, commands written into buffers,
-//! and the partitions of a stream. All is over numbers and byte slices. Its header is `redis_streams.h`.
+//! and the partitions of a stream. Everything is passed as numbers and byte slices. Its header is `redis_streams.h`.
 //!
-//! Each export calls a function of the crates below, and repeats its contract.
+//! Each export calls a function of the other crates, and repeats its contract.
 #![tactic(auto)]
 
 mod adding;

@@ -1,4 +1,4 @@
-//! Any reply in place, as a flat list of its values, in a table of the caller.
+//! Any reply, located in place, as a flat list of its values, in a table of the caller.
 ghost use Rattle.std.specs.Prelude.{◌≡◌, length};
 ghost use Rattle.redis_wire.specs.Limits.{default_limits};
 ghost use Rattle.redis_wire.specs.Nodes.{Finds};
@@ -22,7 +22,7 @@ fn nodes_code(found: &Result<Found, WireError>) -> u32
     }
 }
 
-/// How many bytes the reply has, and 0 if there is none.
+/// The number of bytes of the reply, and 0 if there is none.
 fn nodes_len(found: &Result<Found, WireError>) -> usize
     ensures { result ≡ nodes_len found.now }
 {
@@ -32,7 +32,7 @@ fn nodes_len(found: &Result<Found, WireError>) -> usize
     }
 }
 
-/// How many nodes there are; or an upper bound, if the table has no room for them.
+/// The number of nodes; or an upper bound, if the table has no room for them.
 fn nodes_count(found: &Result<Found, WireError>) -> usize
     ensures { result ≡ nodes_count found.now }
 {
@@ -54,7 +54,7 @@ fn nodes_found(alloc: Global, bytes: &[u8], nodes: &mut [Node]) -> Result<Found,
             if nodes.len() < len / 3 {
                 Ok(Found::NoRoom { len })
             } else {
-                // No value has fewer than three bytes, so such a table is filled.
+                // No value has fewer than three bytes, so such a table is large enough.
                 Err(WireError::Memory)
             }
         }

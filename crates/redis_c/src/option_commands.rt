@@ -29,7 +29,7 @@ use stream_commands::{
 use stream_in_place::{EntryPlace, FieldPlace};
 use stream_options::{StreamAddOptions, StreamClaimOptions, StreamReadOptions};
 
-/// The outcome if there are no options.
+/// The outcome if the options could not be read.
 fn of_unset(unset: Unset) -> Packing
     ensures memory { unset ≡ Unset.Memory → result ≡ Packing.Memory }
     ensures refused { unset ≡ Unset.Refused → result ≡ Packing.Refused }
@@ -284,7 +284,7 @@ fn packed_streams(
 }
 
 /// Packs `XREAD [BLOCK n] [COUNT n] STREAMS key .. id ..` of the keys and ids at these places of bytes: each key as
-/// a name, and its id as a value. `NOACK` and `CLAIM` are for a group alone.
+/// a name, and its id as a value. `NOACK` and `CLAIM` are for a group only.
 #[unsafe(no_mangle)]
 pub extern "C" fn redis_xread_streams(
     alloc: Global,
@@ -338,7 +338,7 @@ pub extern "C" fn redis_xreadgroup_streams(
     packed_group(alloc, settings, group, consumer, bytes, streams, out).tell(len)
 }
 
-/// Packs XPENDING of a consumer or of all.
+/// Packs XPENDING of one consumer or of all.
 fn packed_pending(
     alloc: Global,
     key: &[u8],

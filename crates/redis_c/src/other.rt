@@ -1,4 +1,4 @@
-//! Replies that have no entries in place.
+//! Replies that have no entries.
 ghost use Rattle.std.specs.Prelude.{◌≡◌, ◌≤◌, ◌++◌, ℕ, List, None, IfSome, length, take};
 ghost use Rattle.redis_wire.specs.Packed.{crlf};
 ghost use Rattle.redis_wire.specs.Place.{text_in, IsSpan};
@@ -50,7 +50,7 @@ fn kind_of(bytes: &[u8], len: usize, reply: Reply) -> Outcome
     }
 }
 
-/// The outcome for bytes without entries in place.
+/// The outcome for bytes in which no entries were located.
 pub fn other(alloc: Global, bytes: &[u8]) -> Outcome
     ensures { IsOther bytes.now result }
 {

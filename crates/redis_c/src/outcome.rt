@@ -7,14 +7,14 @@ use crate::code;
 use redis_wire::Fault;
 use redis_wire::place::Span;
 
-/// How many places there are in each table.
+/// The number of places in each table.
 #[derive(Clone, Copy)]
 pub struct Counts {
-    /// How many streams.
+    /// The number of streams.
     pub streams: usize,
-    /// How many entries.
+    /// The number of entries.
     pub entries: usize,
-    /// How many fields.
+    /// The number of fields.
     pub fields: usize,
 }
 
@@ -23,13 +23,13 @@ pub struct Counts {
 pub enum Outcome {
     /// The tables hold the places.
     InPlace {
-        /// How many bytes the reply has.
+        /// The number of bytes of the reply.
         len: usize,
         counts: Counts,
     },
     /// The tables have too little room; the needed sizes follow.
     Room {
-        /// How many bytes the reply has.
+        /// The number of bytes of the reply.
         len: usize,
         counts: Counts,
     },
@@ -37,35 +37,35 @@ pub enum Outcome {
     Incomplete,
     /// The server returned an error.
     ServerError {
-        /// How many bytes the reply has.
+        /// The number of bytes of the reply.
         len: usize,
-        /// Where the text of the error is.
+        /// The place of the text of the error.
         text: Span,
     },
     /// A reply of another shape.
     OtherShape {
-        /// How many bytes the reply has.
+        /// The number of bytes of the reply.
         len: usize,
     },
     /// Out of memory.
     Memory,
-    /// No further bytes could make these a reply.
+    /// The bytes are not a prefix of any reply.
     Fault(Fault),
 }
 
-/// What is returned to C beside the status code.
+/// The values that C receives beside the status code.
 #[repr(C)]
 #[derive(Clone, Copy, Debug, PartialEq, Eq)]
 pub struct Found {
-    /// How many bytes the reply has, and 0 if there is none.
+    /// The number of bytes of the reply, and 0 if there is none.
     pub len: usize,
-    /// How many streams there are.
+    /// The number of streams.
     pub streams: usize,
-    /// How many entries there are in all of them.
+    /// The number of entries in all of them.
     pub entries: usize,
-    /// How many fields there are in all of these.
+    /// The number of fields in all of these.
     pub fields: usize,
-    /// Where the text of the server's error is.
+    /// The place of the text of the server's error.
     pub error: Span,
 }
 
@@ -85,7 +85,7 @@ impl Outcome {
         }
     }
 
-    /// What is returned to C beside the code.
+    /// The values that C receives beside the code.
     pub fn found(self) -> Found
         ensures { result ≡ found self }
     {
@@ -104,7 +104,7 @@ impl Outcome {
         }
     }
 
-    /// Sets what was found, and returns the status code.
+    /// Writes the values to `beside`, and returns the status code.
     pub fn tell(self, beside: &mut Found) -> u32
         ensures number { result ≡ code self }
         ensures beside { beside.new ≡ found self }
@@ -114,7 +114,7 @@ impl Outcome {
     }
 }
 
-/// The outcome for a reply of `len` bytes with this many places, if tables with this room were not filled.
+/// The outcome for a reply of `len` bytes with these counts of places, if tables with this room were not filled.
 pub fn wanted(len: usize, counts: Counts, room: Counts) -> Outcome
     ensures { IsWanting len counts room result }
 {
@@ -127,7 +127,7 @@ pub fn wanted(len: usize, counts: Counts, room: Counts) -> Outcome
     if counts.fields > room.fields {
         return Outcome::Room { len, counts };
     }
-    // Tables with room for all places are filled.
+    // Tables with enough room were not filled, so an allocation failed.
     Outcome::Memory
 }
 

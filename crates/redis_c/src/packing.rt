@@ -12,21 +12,21 @@ use std::alloc::Global;
 pub enum Packing {
     /// The buffer begins with the command.
     Written {
-        /// How many bytes it has.
+        /// The number of bytes of the command.
         len: usize,
     },
     /// The buffer has too little room.
     Room {
-        /// How many bytes are needed.
+        /// The number of bytes that are needed.
         len: usize,
     },
     /// Out of memory.
     Memory,
     /// An argument has 2^32 bytes or more, or there are 2^32 arguments or more.
     TooLarge,
-    /// A place is not within the bytes.
+    /// A place is outside the bytes.
     Outside,
-    /// There is no entry or no field, and the server needs one.
+    /// There is no entry or no field, but the server needs one.
     Nothing,
     /// The settings are invalid.
     Refused,
@@ -48,7 +48,7 @@ impl Packing {
         }
     }
 
-    /// How many bytes were written or are needed.
+    /// The number of bytes that were written or are needed.
     fn len(self) -> usize
         ensures { result ≡ len_of self }
     {
@@ -62,7 +62,7 @@ impl Packing {
         }
     }
 
-    /// Sets how many bytes were written or are needed, and returns the status code.
+    /// Writes the number of bytes that were written or are needed to `len`, and returns the status code.
     pub fn tell(self, len: &mut usize) -> u32
         ensures told { result ≡ number self }
         ensures counted { len.new ≡ len_of self }
@@ -72,7 +72,7 @@ impl Packing {
     }
 }
 
-/// Copies the bytes to the front of the buffer, if they fit.
+/// Copies the bytes to the start of the buffer, if they fit.
 pub fn copied(bytes: &[u8], out: &mut [u8]) -> Packing
     ensures { IsWritten bytes.now out.new result }
 {
@@ -84,14 +84,14 @@ pub fn copied(bytes: &[u8], out: &mut [u8]) -> Packing
     Packing::Written { len: bytes.len() }
 }
 
-/// Packs a command into the front of the buffer.
+/// Packs a command into the start of the buffer.
 pub fn packed<T: ToRedisArgs>(alloc: Global, command: &T, out: &mut [u8]) -> Packing
     ensures { IsPacking (T.args command.now) out.new result }
 {
     match pack_command(alloc, command) {
         Ok(bytes) => copied(&bytes, out),
         Err(PackError::Full) => Packing::TooLarge,
-        // Each command of this crate has its name, so there are arguments.
+        // Each command of this crate has its name, so it has arguments.
         Err(PackError::Memory | PackError::NoArguments) => Packing::Memory,
     }
 }

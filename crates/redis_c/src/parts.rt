@@ -56,14 +56,14 @@ fn after(places: &[Span], n: usize) -> &[Span]
     }
 }
 
-/// The places after a word, if it is there.
+/// The places after a word, if it is present.
 fn after_flag(places: &[Span], is_there: bool) -> &[Span]
     ensures { (word : List ℕ) → Skips (flag word is_there) places.now result.now }
 {
     if is_there { after(places, 1) } else { places }
 }
 
-/// The places after a word and its number, if they are there.
+/// The places after a word and its number, if they are present.
 fn after_number(places: &[Span], number: Option<usize>) -> &[Span]
     ensures { (word : List ℕ) → Skips (clause (word_number word) number) places.now result.now }
 {
@@ -73,7 +73,7 @@ fn after_number(places: &[Span], number: Option<usize>) -> &[Span]
     }
 }
 
-/// Whether there is a number, and the number, or 0.
+/// Whether the number is set, and the number, or 0.
 fn set_number(number: Option<usize>) -> (bool, usize)
     ensures plain { IsZeroUnless result.0 result.1 }
     ensures is { if_set result.0 result.1 ≡ number }
@@ -106,7 +106,7 @@ fn is_approximate(mode: &StreamTrimmingMode) -> bool
     }
 }
 
-/// The settings without a bound, a limit and a policy.
+/// The settings without a bound, a limit or a policy.
 fn untrimmed() -> TrimSettings
     ensures bound { result.bound ≡ 0 }
     ensures plain { IsPlainTrim result }
@@ -147,7 +147,7 @@ fn strategy_settings(strategy: &StreamTrimStrategy, places: &[Span]) -> TrimSett
     settings
 }
 
-/// How a stream is trimmed, without the policy, if it is.
+/// How a stream is trimmed, without the policy, if it is trimmed.
 fn any_strategy_settings(strategy: &Option<StreamTrimStrategy>, places: &[Span]) -> TrimSettings
     ensures plain { IsPlainTrim result }
     ensures is { Tells (λ x. IfSome x StrategyFits) (clause strategy_sentence)
@@ -186,7 +186,7 @@ fn way_settings(mode: &StreamIdempotencyMode, places: &[Span]) -> (u32, Span, Sp
     }
 }
 
-/// The same, if it does.
+/// The same, if the server detects duplicates.
 fn idempotency_settings(mode: &Option<StreamIdempotencyMode>, places: &[Span]) -> (u32, Span, Span)
     ensures producer { result.0 ≡ 0 → result.1 ≡ nowhere }
     ensures idempotent_id { result.0 ≢ 1 → result.2 ≡ nowhere }
@@ -241,7 +241,7 @@ pub fn add_settings(parts: &AddParts, places: &[Span]) -> AddSettings
     }
 }
 
-/// Whether LASTID is set, and where its id is. The places are those of the clause and what follows.
+/// Whether LASTID is set, and the place of its id. The places are those of the clause and what follows.
 fn lastid_settings(lastid: &Option<String>, places: &[Span]) -> (bool, Span)
     ensures plain { IsNowhereUnless result.0 result.1 }
     ensures is { Tells (λ x. IfSome x IsUtf8) (clause (word_text (codes "LASTID")))
@@ -280,7 +280,7 @@ pub fn claim_settings(parts: &ClaimParts, places: &[Span]) -> ClaimSettings
     }
 }
 
-/// How idle entries are claimed, whichever they are.
+/// How idle entries are claimed, whatever their ids.
 pub fn autoclaim_settings(parts: AutoClaimParts) -> AutoClaimSettings
     ensures plain { IsPlainAutoClaim result }
     ensures is { autoclaim_of result ≡ told.autoclaim_of parts }
@@ -312,7 +312,7 @@ pub fn read_settings(parts: ReadParts<'_>) -> ReadSettings
     }
 }
 
-/// The group and the consumer, if they are named, by the places of the arguments.
+/// The group and the consumer, if they are given, by the places of the arguments.
 pub fn group_place(names: Option<GroupNames<'_>>, places: &[Span]) -> GroupPlace
     ensures plain { IsPlainGroup result }
     ensures named { result.has_group ≡ is_some names.entry }

@@ -7,12 +7,12 @@ use redis_wire::place::Span;
 use std::alloc::Global;
 use stream_in_place::{EntryPlace, FieldPlace};
 
-/// Why there are no arguments.
+/// Why the arguments could not be read.
 #[derive(Clone, Copy)]
 pub enum Unplaced {
     /// Out of memory.
     Memory,
-    /// A place is not within the bytes.
+    /// A place is outside the bytes.
     Outside,
 }
 

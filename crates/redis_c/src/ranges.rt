@@ -21,7 +21,7 @@ pub extern "C" fn redis_xlen(alloc: Global, key: &[u8], out: &mut [u8], len: &mu
     packed(alloc, &xlen(Argument(key)), out).tell(len)
 }
 
-/// Packs `XRANGE key start end`: all entries from `start` to `end`, both included, the smallest id first.
+/// Packs `XRANGE key start end`: all entries from `start` to `end`, both included, in ascending order.
 #[unsafe(no_mangle)]
 pub extern "C" fn redis_xrange(
     alloc: Global,
@@ -58,8 +58,8 @@ pub extern "C" fn redis_xrange_count(
     packed(alloc, &command, out).tell(len)
 }
 
-/// Packs `XREVRANGE key end start`: all entries from `end` back to `start`, both included, the largest id
-/// first.
+/// Packs `XREVRANGE key end start`: all entries from `end` back to `start`, both included, in descending
+/// order.
 #[unsafe(no_mangle)]
 pub extern "C" fn redis_xrevrange(
     alloc: Global,

@@ -10,21 +10,21 @@ use redis_wire::place::Span;
 #[repr(C)]
 #[derive(Clone, Copy, Debug, PartialEq, Eq)]
 pub struct GroupRecord {
-    /// Where its name is.
+    /// The place of its name.
     pub name: Span,
-    /// Where the id of the last delivered entry is.
+    /// The place of the id of the last delivered entry.
     pub last_delivered_id: Span,
-    /// How many consumers it has.
+    /// The number of its consumers.
     pub consumers: usize,
-    /// How many entries were delivered and not yet acknowledged.
+    /// The number of entries that were delivered and are not yet acknowledged.
     pub pending: usize,
     /// Whether the reply has `entries_read`.
     pub has_entries_read: bool,
     /// Whether the reply has `lag`.
     pub has_lag: bool,
-    /// How many entries the group has read.
+    /// The number of entries that the group has read.
     pub entries_read: usize,
-    /// How many entries the group has still to read.
+    /// The number of entries that the group has not read yet.
     pub lag: usize,
 }
 
@@ -32,13 +32,13 @@ pub struct GroupRecord {
 #[repr(C)]
 #[derive(Clone, Copy, Debug, PartialEq, Eq)]
 pub struct PendingRecord {
-    /// Where its id is.
+    /// The place of its id.
     pub id: Span,
-    /// Where the name of its consumer is.
+    /// The place of the name of its consumer.
     pub consumer: Span,
-    /// How many milliseconds have passed since its last delivery.
+    /// The number of milliseconds since its last delivery.
     pub last_delivered_ms: usize,
-    /// How often it was delivered.
+    /// The number of deliveries.
     pub times_delivered: usize,
 }
 
@@ -46,36 +46,36 @@ pub struct PendingRecord {
 #[repr(C)]
 #[derive(Clone, Copy, Debug, PartialEq, Eq)]
 pub struct ConsumerRecord {
-    /// Where its name is.
+    /// The place of its name.
     pub name: Span,
-    /// How many entries are pending for it.
+    /// The number of entries pending for it.
     pub pending: usize,
 }
 
-/// What is pending for a group: nothing if `count` is 0. Its texts are in the bytes that the call writes beside
+/// The pending entries of a group: none if `count` is 0. Its texts are in the bytes that the call writes beside
 /// it.
 #[repr(C)]
 #[derive(Clone, Copy, Debug, PartialEq, Eq)]
 pub struct SummaryRecord {
-    /// How many entries are pending.
+    /// The number of pending entries.
     pub count: usize,
-    /// Where the smallest id among them is.
+    /// The place of the smallest id among them.
     pub start_id: Span,
-    /// Where the largest id among them is.
+    /// The place of the largest id among them.
     pub end_id: Span,
 }
 
-/// What is returned to C beside the status code.
+/// The values that C receives beside the status code.
 #[repr(C)]
 #[derive(Clone, Copy, Debug, PartialEq, Eq)]
 pub struct RecordsFound {
-    /// How many bytes the reply has, and 0 if there is none.
+    /// The number of bytes of the reply, and 0 if there is none.
     pub len: usize,
-    /// How many records there are.
+    /// The number of records.
     pub records: usize,
-    /// How many bytes their texts have.
+    /// The number of bytes of their texts.
     pub text: usize,
-    /// Where the text of the server's error is.
+    /// The place of the text of the server's error.
     pub error: Span,
 }
 
@@ -84,20 +84,20 @@ pub struct RecordsFound {
 pub enum Records {
     /// The tables hold the records.
     Copied {
-        /// How many bytes the reply has.
+        /// The number of bytes of the reply.
         len: usize,
-        /// How many records there are.
+        /// The number of records.
         records: usize,
-        /// How many bytes their texts have.
+        /// The number of bytes of their texts.
         text: usize,
     },
     /// The tables have too little room; the needed sizes follow.
     Room {
-        /// How many bytes the reply has.
+        /// The number of bytes of the reply.
         len: usize,
-        /// How many records there are.
+        /// The number of records.
         records: usize,
-        /// How many bytes their texts have.
+        /// The number of bytes of their texts.
         text: usize,
     },
     /// There are no records.
@@ -116,7 +116,7 @@ impl Records {
         }
     }
 
-    /// What is returned to C beside the code.
+    /// The values that C receives beside the code.
     fn found(self) -> RecordsFound
         ensures { result ≡ records_found self }
     {
@@ -141,7 +141,7 @@ impl Records {
         }
     }
 
-    /// Sets what was found, and returns the status code.
+    /// Writes the values to `found`, and returns the status code.
     pub fn tell(self, found: &mut RecordsFound) -> u32
         ensures number { result ≡ records_code self }
         ensures beside { found.new ≡ records_found self }

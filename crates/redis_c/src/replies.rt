@@ -40,7 +40,7 @@ fn record_of<T: FromRedisValue>(
     }
 }
 
-/// The record of the reply at the head of bytes, and how many bytes the reply has.
+/// The record of the reply at the head of bytes, and the number of bytes of the reply.
 fn read_record<T: FromRedisValue>(alloc: Global, bytes: &[u8]) -> Result<(T, usize), Outcome>
     ensures ok { IfOk result (λ x. IsRecordAt T.reading bytes.now x.1 (T.meaning x.0)) }
     ensures err { IfErr result (IsUnread T.reading bytes.now) }
@@ -60,7 +60,7 @@ fn read_record<T: FromRedisValue>(alloc: Global, bytes: &[u8]) -> Result<(T, usi
     }
 }
 
-/// Copies items to the front of a table that has room for them.
+/// Copies items to the start of a table that has room for them.
 fn copy_front<T: Copy>(items: &[T], table: &mut [T])
     requires { length items.now ≤ length table.old }
     ensures { take (length items.now) table.new ≡ items.now }
@@ -69,7 +69,7 @@ fn copy_front<T: Copy>(items: &[T], table: &mut [T])
     front.copy_from_slice(items);
 }
 
-/// Copies rows and their texts to the front of tables, if both have room.
+/// Copies rows and their texts to the start of tables, if both have room.
 fn copy_rows<T: Copy>(
     len: usize,
     rows: &[T],

@@ -27,15 +27,15 @@ use stream_option_parsing::{
     read_trim_parts,
 };
 
-/// Where the names of a group and its consumer are.
+/// The places of the names of a group and its consumer.
 #[repr(C)]
 #[derive(Clone, Copy, Debug, PartialEq, Eq)]
 pub struct GroupPlace {
-    /// Whether they are named.
+    /// Whether they are given.
     pub has_group: bool,
-    /// Where the name of the group is.
+    /// The place of the name of the group.
     pub group: Span,
-    /// Where the name of the consumer is.
+    /// The place of the name of the consumer.
     pub consumer: Span,
 }
 
@@ -44,12 +44,12 @@ pub struct GroupPlace {
 pub enum Reading {
     /// The arguments begin with the options.
     Options {
-        /// How many arguments they are.
+        /// The number of their arguments.
         count: usize,
     },
     /// Out of memory.
     Memory,
-    /// A place is not within the bytes.
+    /// A place is outside the bytes.
     Outside,
     /// The arguments do not begin with options.
     NoOptions,
@@ -68,7 +68,7 @@ impl Reading {
         }
     }
 
-    /// How many arguments the options are.
+    /// The number of arguments of the options.
     fn count(self) -> usize
         ensures { result ≡ reading_count self }
     {
@@ -78,7 +78,7 @@ impl Reading {
         }
     }
 
-    /// Sets how many arguments the options are, and returns the status code.
+    /// Writes the number of arguments of the options to `count`, and returns the status code.
     fn tell(self, count: &mut usize) -> u32
         ensures told { result ≡ reading_number self }
         ensures counted { count.new ≡ reading_count self }
@@ -88,7 +88,7 @@ impl Reading {
     }
 }
 
-/// The outcome if there are no texts.
+/// The outcome if the texts could not be read.
 fn of_unplaced(unplaced: Unplaced) -> Reading
     ensures memory { unplaced ≡ Unplaced.Memory → result ≡ Reading.Memory }
     ensures outside { unplaced ≡ Unplaced.Outside → result ≡ Reading.Outside }
@@ -112,7 +112,7 @@ fn of_error(error: SentenceError) -> Reading
     }
 }
 
-/// The options of XADD at the front of the arguments at these places.
+/// Parses the options of XADD at the start of the arguments at these places.
 fn add_reading(alloc: Global, bytes: &[u8], places: &[Span], settings: &mut AddSettings) -> Reading
     ensures is { IsReading AddFits add_sentence add_words Equal (texts_at bytes.now places.now)
         (add_in bytes.now settings.new) result }
@@ -130,8 +130,8 @@ fn add_reading(alloc: Global, bytes: &[u8], places: &[Span], settings: &mut AddS
     Reading::Options { count }
 }
 
-/// Parses the options of XADD that the arguments at these places of bytes begin with, those after the key:
-/// `count` of them, and after them is the id.
+/// Parses the options of XADD at the start of the arguments at these places of bytes, those after the key:
+/// they are `count` arguments, and the id follows.
 #[unsafe(no_mangle)]
 pub extern "C" fn redis_read_add(
     alloc: Global,
@@ -147,7 +147,7 @@ pub extern "C" fn redis_read_add(
     add_reading(alloc, bytes, places, settings).tell(count)
 }
 
-/// The options of XTRIM at the front of the arguments at these places.
+/// Parses the options of XTRIM at the start of the arguments at these places.
 fn trim_reading(
     alloc: Global,
     bytes: &[u8],
@@ -170,8 +170,8 @@ fn trim_reading(
     Reading::Options { count }
 }
 
-/// Parses the options of XTRIM that the arguments at these places of bytes begin with, those after the key:
-/// `count` of them.
+/// Parses the options of XTRIM at the start of the arguments at these places of bytes, those after the key:
+/// they are `count` arguments.
 #[unsafe(no_mangle)]
 pub extern "C" fn redis_read_trim(
     alloc: Global,
@@ -187,7 +187,7 @@ pub extern "C" fn redis_read_trim(
     trim_reading(alloc, bytes, places, settings).tell(count)
 }
 
-/// The options of XCLAIM at the front of the arguments at these places.
+/// Parses the options of XCLAIM at the start of the arguments at these places.
 fn claim_reading(
     alloc: Global,
     bytes: &[u8],
@@ -210,8 +210,8 @@ fn claim_reading(
     Reading::Options { count }
 }
 
-/// Parses the options of XCLAIM that the arguments at these places of bytes begin with, those after the ids:
-/// `count` of them.
+/// Parses the options of XCLAIM at the start of the arguments at these places of bytes, those after the ids:
+/// they are `count` arguments.
 #[unsafe(no_mangle)]
 pub extern "C" fn redis_read_claim(
     alloc: Global,
@@ -227,7 +227,7 @@ pub extern "C" fn redis_read_claim(
     claim_reading(alloc, bytes, places, settings).tell(count)
 }
 
-/// The options of XAUTOCLAIM at the front of the arguments at these places.
+/// Parses the options of XAUTOCLAIM at the start of the arguments at these places.
 fn autoclaim_reading(
     alloc: Global,
     bytes: &[u8],
@@ -250,8 +250,8 @@ fn autoclaim_reading(
     Reading::Options { count }
 }
 
-/// Parses the options of XAUTOCLAIM that the arguments at these places of bytes begin with, those after the
-/// start: `count` of them.
+/// Parses the options of XAUTOCLAIM at the start of the arguments at these places of bytes, those after the
+/// start: they are `count` arguments.
 #[unsafe(no_mangle)]
 pub extern "C" fn redis_read_autoclaim(
     alloc: Global,
@@ -267,7 +267,7 @@ pub extern "C" fn redis_read_autoclaim(
     autoclaim_reading(alloc, bytes, places, settings).tell(count)
 }
 
-/// The options of XREAD or XREADGROUP at the front of the arguments at these places.
+/// Parses the options of XREAD or XREADGROUP at the start of the arguments at these places.
 fn read_reading(
     alloc: Global,
     bytes: &[u8],
@@ -293,8 +293,8 @@ fn read_reading(
     Reading::Options { count }
 }
 
-/// Parses the options of XREAD or XREADGROUP that the arguments at these places of bytes begin with: `count` of
-/// them, and after them is `STREAMS`.
+/// Parses the options of XREAD or XREADGROUP at the start of the arguments at these places of bytes: they are
+/// `count` arguments, and `STREAMS` follows.
 #[unsafe(no_mangle)]
 pub extern "C" fn redis_read_read(
     alloc: Global,

@@ -10,13 +10,13 @@ pub struct TrimSettings {
     /// What happens to deleted entries in the pending lists of groups: 0 for no policy, 1 for `KEEPREF`, 2 for
     /// `DELREF` and 3 for `ACKED`.
     pub policy: u32,
-    /// Whether more entries may stay: `~` in place of `=`.
+    /// Whether more entries may remain: `~` instead of `=`.
     pub approximate: bool,
     /// Whether one call removes at most `limit` entries.
     pub has_limit: bool,
-    /// With `MAXLEN`, how many entries stay.
+    /// With `MAXLEN`, the number of entries that remain.
     pub maxlen: usize,
-    /// With `MINID`, the place of the smallest id that stays.
+    /// With `MINID`, the place of the smallest id that remains.
     pub minid: Span,
     /// The limit on entries.
     pub limit: usize,
@@ -30,7 +30,7 @@ pub struct AddSettings {
     pub nomkstream: bool,
     /// How the server detects duplicates: 0 for not at all, 1 for `IDMP` and 2 for `IDMPAUTO`.
     pub idempotency: u32,
-    /// Where the name of the producer is.
+    /// The place of the name of the producer.
     pub producer: Span,
     /// With `IDMP`, the place of the idempotent id.
     pub idempotent_id: Span,
@@ -42,15 +42,15 @@ pub struct AddSettings {
 #[repr(C)]
 #[derive(Clone, Copy, Debug, PartialEq, Eq)]
 pub struct ClaimSettings {
-    /// Whether the entries count as idle for `idle` milliseconds.
+    /// Whether the idle time of the entries is set to `idle` milliseconds.
     pub has_idle: bool,
-    /// Whether they count as last delivered `time` milliseconds after the start of 1970.
+    /// Whether their last delivery time is set to `time`, a Unix time in milliseconds.
     pub has_time: bool,
-    /// Whether they count as delivered `retry` times.
+    /// Whether their delivery count is set to `retry`.
     pub has_retry: bool,
-    /// Whether an entry that is pending for nobody is claimed too.
+    /// Whether an entry that is pending for no consumer is claimed too.
     pub force: bool,
-    /// Whether the reply has the ids alone.
+    /// Whether the reply has only the ids.
     pub justid: bool,
     /// Whether `lastid` is set as the last delivered id of the group.
     pub has_lastid: bool,
@@ -58,19 +58,19 @@ pub struct ClaimSettings {
     pub idle: usize,
     /// In milliseconds.
     pub time: usize,
-    /// How often they count as delivered.
+    /// The delivery count.
     pub retry: usize,
-    /// Where the id is.
+    /// The place of the id.
     pub lastid: Span,
 }
 
-/// How idle entries are claimed, whichever they are.
+/// How idle entries are claimed, whatever their ids.
 #[repr(C)]
 #[derive(Clone, Copy, Debug, PartialEq, Eq)]
 pub struct AutoClaimSettings {
     /// Whether at most `count` entries are claimed.
     pub has_count: bool,
-    /// Whether the reply has the ids alone.
+    /// Whether the reply has only the ids.
     pub justid: bool,
     /// The limit on entries.
     pub count: usize,
@@ -80,9 +80,9 @@ pub struct AutoClaimSettings {
 #[repr(C)]
 #[derive(Clone, Copy, Debug, PartialEq, Eq)]
 pub struct PendingSettings {
-    /// Whether only those that have been idle for `idle` milliseconds.
+    /// Whether only entries that have been idle for `idle` milliseconds are requested.
     pub has_idle: bool,
-    /// Whether only those that are pending for the consumer.
+    /// Whether only entries that are pending for the consumer are requested.
     pub has_consumer: bool,
     /// In milliseconds.
     pub idle: usize,
@@ -93,6 +93,6 @@ pub struct PendingSettings {
 pub enum Unset {
     /// Out of memory.
     Memory,
-    /// A number is none of its choices, or a text is not within the bytes or is not UTF-8.
+    /// A number is not one of its choices, or a text is not within the bytes or is not UTF-8.
     Refused,
 }

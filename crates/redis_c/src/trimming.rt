@@ -1,4 +1,4 @@
-//! The settings of trimming, from those that C passes.
+//! The settings of trimming, from the values that C passes.
 ghost use Rattle.std.specs.Prelude.{◌≡◌, string_bytes, option_map};
 ghost use Rattle.stream_options.specs.Trim.{unlimited};
 ghost use Rattle.stream_options.specs.View.{mode_of, policy_of, strategy_of};
