@@ -1,4 +1,4 @@
--- What is returned to C about the bytes of a reply.
+-- The result that C receives for the bytes of a reply.
 use Rattle.std.specs.Prelude.{◌≡◌, ◌≤◌, ◌<◌, ◌⊎◌, ◌++◌, ℕ, List, length, take, map, false}
 use Rattle.redis_wire.specs.Limits.{default_limits}
 use Rattle.redis_wire.specs.Reply.{Answer, refused}
@@ -40,7 +40,7 @@ pub record RangeFits (bytes : List ℕ) (entry_room field_room : ℕ) : Type 0 w
   pub entries : length es ≤ entry_room
   pub fields : length (all_fields es) ≤ field_room
 
--- The same of streams, with their entries and the fields of all of these.
+-- The same for streams, with their entries and the fields of all of these.
 pub record ReadFits (bytes : List ℕ) (stream_room entry_room field_room : ℕ) : Type 0 where
   pub ss : List SentStream
   pub len : ℕ
@@ -60,7 +60,7 @@ pub record IsAnswered (bytes : List ℕ) (len : ℕ) (a : Answer) : Type 0 where
   pub within : len ≤ length bytes
   pub reply : IsReply default_limits (take len bytes) a
 
--- a reply that is no error
+-- a reply that is not an error
 abbrev pub IsNoError : Answer → Type 0
 IsNoError (refused text) = ⊥
 IsNoError _ = Unit {0}
@@ -70,18 +70,18 @@ pub record IsErrorAt (bytes : List ℕ) (len : ℕ) (text : Span) : Type 0 where
   pub answered : IsAnswered bytes len (refused (text_in bytes text))
   pub within : IsSpan bytes text
 
--- The first `len` bytes are a reply that is no error.
+-- The first `len` bytes are a reply that is not an error.
 pub record IsShape (bytes : List ℕ) (len : ℕ) : Type 0 where
   pub a : Answer
   pub answered : IsAnswered bytes len a
   pub no_error : IsNoError a
 
--- The bytes end before a reply does, and have no fault.
+-- The bytes end before the end of a reply, and have no fault.
 pub record IsUnfinished (bytes : List ℕ) : Type 0 where
   pub none : NoReply default_limits bytes
   pub early : EndTooEarly default_limits bytes
 
--- The bytes are no reply, whatever follows them, and this fault is the first one in them.
+-- The bytes are not a reply, whatever follows them, and this fault is the first one in them.
 pub record IsFaulty (bytes : List ℕ) (fault : Fault) : Type 0 where
   pub none : (more : List ℕ) → NoReply default_limits (bytes ++ more)
   pub first : IsFirstFault default_limits bytes (errors.Fault fault)
@@ -92,7 +92,7 @@ IsError bytes (outcomes.ServerError len text) = IsErrorAt bytes len text
 IsError bytes _ = ⊥
 
 -- If no entries are in place: the bytes end too early, or have a fault; an error of the server, wherever its text is;
--- or a reply of another shape, which is no error.
+-- or a reply of another shape, which is not an error.
 abbrev pub IsOther : List ℕ → Outcome → Type 0
 IsOther bytes outcomes.Incomplete = IsUnfinished bytes
 IsOther bytes (outcomes.ServerError len text) = IsErrorAt bytes len text
@@ -109,7 +109,7 @@ first_of counts streams entries fields = record {
   fields = take counts.fields fields;
 }
 
--- room for this many streams, entries and fields
+-- room for these numbers of streams, entries and fields
 abbrev pub room_of : ℕ → ℕ → ℕ → Counts
 room_of streams entries fields = record { streams = streams; entries = entries; fields = fields }
 
@@ -118,12 +118,12 @@ abbrev pub IsTooMuch : Counts → Counts → Type 0
 IsTooMuch counts room =
     (room.streams < counts.streams) ⊎ ((room.entries < counts.entries) ⊎ (room.fields < counts.fields))
 
--- There are places, and one of the tables has room for fewer.
+-- The reply has places, and one of the tables has room for fewer.
 abbrev pub IsWanted : (List ℕ → ℕ → Held → Type 0) → List ℕ → Counts → ℕ → Counts → Type 0
 IsWanted In bytes room len counts =
     (held : Held) × In bytes len held × HasCounts counts held × IsTooMuch counts room
 
--- The outcome of parsing if tables with this room were not filled: there are places, and one of the tables has room
+-- The outcome of parsing if tables with this room were not filled: the reply has places, and one of the tables has room
 -- for fewer; or there are none.
 abbrev pub IsRoom : (List ℕ → ℕ → Held → Type 0) → List ℕ → Counts → Outcome → Type 0
 IsRoom In bytes room (outcomes.InPlace len counts) = ⊥
