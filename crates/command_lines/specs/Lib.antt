@@ -1,3 +1,3 @@
--- What the clauses of this crate cite.
+-- The definitions for the contracts of this crate.
 pub mod Numbers
 pub mod WorkerSettings

@@ -1,8 +1,8 @@
--- The number that a word is.
+-- The number that an argument is.
 use Rattle.std.specs.Prelude.{◌^◌, ◌<◌, ◌≤◌, ℕ, List}
 use Rattle.std.specs.Str.Parse.{IsNumeral, digits_value, without_leading_plus}
 
--- the number that these digits write, where a plus may be first
+-- the number of these decimal digits; a plus may precede them
 abbrev pub number_of : List ℕ → ℕ
 number_of text = digits_value 10 (without_leading_plus text)
 

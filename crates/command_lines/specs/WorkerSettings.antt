@@ -1,4 +1,4 @@
--- Which settings of a worker a command line asks for, by what clap found in it.
+-- The settings of a worker in a command line, by the arguments that clap found in it.
 use Rattle.std.specs.Prelude.{◌≡◌, ◌≢◌, ◌<◌, ◌-◌, ◌^◌, ◌∷◌, [], ℕ, Bool, IfSome, List, None, Option, Some, String, codes, false, option_map}
 use Rattle.std.specs.Prelude.{string_bytes, true, unwrap_or}
 use Rattle.std.specs.declared.alloc.Global.{Global}
@@ -11,15 +11,15 @@ use Rattle.worker.specs.declared.state.MakeGroup.{MakeGroup}
 use Rattle.worker.specs.declared.state.MakeGroup.TheVariants.{FromNow, FromTheFirst, Never}
 use Rattle.worker.specs.declared.state.Settings.{Settings}
 
--- the word that a line has for an argument, or the empty text
+-- the value of an argument in a line, or the empty text
 abbrev pub word_in : Found → List ℕ → List ℕ
 word_in found id = unwrap_or (first_value found id) []
 
--- the text is the word that a line has for an argument
+-- the text is the value of an argument in a line
 abbrev pub IsWord : Found → List ℕ → String Global → Type 0
 IsWord found id text = string_bytes text ≡ word_in found id
 
--- the number is that of an option, in the range that the option takes
+-- the number is that of an option, in the range of the option
 abbrev pub IsNumber : Found → List ℕ → ℕ → ℕ → ℕ → Type 0
 IsNumber found id least most number = (text : List ℕ) → one_text found id ≡ Some text
     → IsNumberIn least most text → number ≡ number_of text
@@ -28,14 +28,14 @@ IsNumber found id least most number = (text : List ℕ) → one_text found id �
 abbrev pub largest : ℕ
 largest = 2 ^ 64 - 1
 
--- `--from 0` makes a group with all entries, `--from $` with those from then on, and no other word makes any
+-- `--from 0` creates a group with all entries, `--from $` with those from then on, and no other value creates any
 pub record MakesGroup (word : List ℕ) (makes : MakeGroup) : Type 0 where
   pub first : word ≡ codes "0" → makes ≡ FromTheFirst
   pub now : word ≡ codes "$" → makes ≡ FromNow
   pub never : word ≢ codes "0" → word ≢ codes "$" → makes ≡ Never
 
--- the worker has the names KEY, GROUP and CONSUMER, and the numbers of `--block`, `--idle` and `--every`; it asks for as
--- many entries at once as the option `count` says
+-- the worker has the names KEY, GROUP and CONSUMER, and the numbers of `--block`, `--idle` and `--every`; the option
+-- `count` gives the largest number of entries of one request
 pub record AreSettings (count : List ℕ) (least most : ℕ) (found : Found) (s : Settings) : Type 0 where
   pub key : IsWord found (codes "KEY") s.key
   pub group : IsWord found (codes "GROUP") s.group
@@ -58,7 +58,7 @@ pub record GivesUp (found : Found) (to : Option GiveUp) : Type 0 where
   pub left_out : matched_of found (codes "dead") ≡ None → to ≡ None
   pub some : IfSome to (λ g. (0 < g.deliveries) × (string_bytes g.stream ≢ word_in found (codes "KEY")))
 
--- how many replicas are asked, and for how many milliseconds
+-- the number of replicas, and of milliseconds
 abbrev pub wait_parts : Wait → ℕ × ℕ
 wait_parts wait = (wait.replicas, wait.milliseconds)
 
@@ -69,7 +69,7 @@ pub record Waits (found : Found) (wait : Option Wait) : Type 0 where
       → option_map wait_parts wait ≡ Some (number_of replicas, number_of milliseconds)
   pub left_out : matched_of found (codes "wait") ≡ None → wait ≡ None
 
--- an option without a value is there, or it is not
+-- whether an option without a value is present
 pub record IsFlag (found : Found) (id : List ℕ) (is_there : Bool) : Type 0 where
   pub given : one_text found id ≡ Some (codes "true") → is_there ≡ true
   pub other : one_text found id ≡ Some (codes "false") → is_there ≡ false

@@ -1,8 +1,8 @@
-//! What the command lines of the programs have in common, over the crate `clap`: their options as
-//! data, how words are read, and how a wrong line is told.
+//! The common parts of the command lines of the programs, over the crate `clap`: their options as
+//! data, how arguments are parsed, and how errors in a line are reported.
 //!
-//! The standard output of these programs is the connection with the server. So help, the version
-//! and what is wrong with a line go to standard error.
+//! The standard output of these programs is the connection to the server. So help, the version
+//! and errors go to standard error.
 #![tactic(auto)]
 
 ghost use Rattle.std.specs.Prelude.{◌≡◌, ◌≢◌, ◌≤◌, ◌<◌, ◌∷◌, ◌⊎◌, [], ℕ, List, IfErr, IfOk, IfSome, None, Some};
@@ -28,14 +28,14 @@ pub use worker_settings::{confirmation_of, dead, give_up_of, settings_of};
 /// The version of the programs, which `--version` shows.
 pub const VERSION: &str = "0.9.0";
 
-/// What the program was built from, after a mark. A release replaces the text after the mark in the built program, by one of
+/// The build of the program, after a mark. A release replaces the text after the mark in the built program by one of
 /// the same length; spaces at its end are not shown.
 static BUILD: &str = "@jagyerti-build@unproved, built from a checkout             ";
 
 /// The length of the mark.
 const MARK: usize = 16;
 
-/// The command of a program. Its words come without the program's name. An option that comes again undoes the one before.
+/// The command of a program. Its arguments exclude the program's name. A repeated option overrides the earlier one.
 pub fn command<'a>(alloc: Global, program: &'a str, about: &'a str) -> Command<'a>
     ensures name { (fields_of result).name ≡ program.entry }
     ensures words { (fields_of result).no_binary_name ≡ true }
@@ -54,7 +54,7 @@ const CONNECTION: &str =
     "Standard input and standard output are the connection with the server, so this text and each \
      error\ngo to standard error. Names that begin with a hyphen come last, after the word --.";
 
-/// What these words are for the command, of which `least` are there at least.
+/// Parses these arguments with the command. Fewer than `least` of them are an error.
 pub fn matches_of<'a>(
     alloc: Global,
     command: &mut Command<'a>,
@@ -71,7 +71,7 @@ pub fn matches_of<'a>(
     Ok(matches)
 }
 
-/// The error of a line that the program itself refuses, for this reason.
+/// The error of a line that the program itself refuses for this reason.
 pub fn refused<D: Display>(alloc: Global, command: &mut Command<'_>, reason: &D) -> Error
     ensures { (kind_of result ≡ ErrorKind.ValueValidation) ⊎ (kind_of result ≡ ErrorKind.OutOfMemory) }
 {
@@ -92,7 +92,7 @@ fn refusal<D: Display>(
     command.error(ErrorKind::ValueValidation, &text)
 }
 
-/// The error of a line in which this option has a value that the program itself refuses, for this reason.
+/// The error of a line with a value of this option that the program itself refuses for this reason.
 pub fn refused_value(
     alloc: Global,
     command: &mut Command<'_>,
@@ -107,8 +107,8 @@ pub fn refused_value(
     refused(alloc, command, &text)
 }
 
-/// Tells on standard error what a line asks for that is not to be run, or what is wrong with it. Returns the status:
-/// 0 for help and the version, 1 if memory ran out, and 2 for a wrong line.
+/// Writes the help, the version or the error of a line to standard error. Returns the status:
+/// 0 for help and the version, 1 if memory ran out, and 2 for an invalid line.
 pub fn tell<R: Eprint>(alloc: Global, rt: &R, error: &Error) -> io::Result<ExitCode>
     ensures asked { IfOk result (λ code. (kind_of error.now ≡ ErrorKind.DisplayHelp)
         ⊎ (kind_of error.now ≡ ErrorKind.DisplayVersion) → exit_status code ≡ 0) }
@@ -138,7 +138,7 @@ fn status_of(error: &Error) -> u8
     }
 }
 
-/// What to do about an error of the server with this code, such as `NOGROUP`, if a user can do something.
+/// What a user can do about an error of the server with this code, such as `NOGROUP`; `None` if nothing is known.
 pub fn remedy_of(code: &str) -> Option<&'static str>
     ensures group { code.now ≡ codes "NOGROUP" → option_map (λ text. text.now) result ≡ Some NO_GROUP.now }
     ensures moved { (code.now ≡ codes "MOVED") ⊎ (code.now ≡ codes "ASK")
@@ -159,7 +159,7 @@ const NO_GROUP: &str =
 const MOVED: &str =
     "This is a node of a cluster, and another node has the key: start 'jagyerti' with --cluster.";
 
-/// The text of an error as it may be shown: a control character of a word, which could steer a terminal, is `?`.
+/// The text of an error for display: a control character of an argument, which could control a terminal, becomes `?`.
 fn shown(alloc: Global, error: &Error) -> Result<String, AllocError> {
     let text = format!(in alloc; "{error}")?;
     if error.kind() == ErrorKind::DisplayVersion {
@@ -173,8 +173,8 @@ fn shown(alloc: Global, error: &Error) -> Result<String, AllocError> {
     Ok(shown)
 }
 
-/// The name and the version of a program, and what it was built from. The spaces are looked for in a copy that begins with
-/// `version`: so a compiler cannot compute the text of `BUILD` in advance.
+/// The name, the version and the build of a program. The spaces are searched for in a copy that begins with
+/// `version`, so that a compiler cannot compute the text of `BUILD` in advance.
 fn with_build(alloc: Global, version: &str) -> Result<String, AllocError> {
     let mut text = String::from_str(alloc, version)?;
     text.push_str(" (")?;
@@ -186,7 +186,7 @@ fn with_build(alloc: Global, version: &str) -> Result<String, AllocError> {
     Ok(shown)
 }
 
-/// The value of the argument `id`; if it is not there, the empty text.
+/// The value of the argument `id`; the empty text if it is absent.
 pub fn word_of<'a>(matches: &ArgMatches<'a>, id: &str) -> &'a str
     ensures some { (text : List ℕ) → first_value (found_of matches.now) id.now ≡ Some text
         → result.now ≡ text }
@@ -199,25 +199,25 @@ pub fn word_of<'a>(matches: &ArgMatches<'a>, id: &str) -> &'a str
     }
 }
 
-/// An option with a number, as `--count 100`.
+/// An option with a number, such as `--count 100`.
 #[derive(Clone, Copy)]
 pub struct Number {
     /// Its name, without the hyphens.
     pub name: &'static str,
-    /// What its value is, as `--help` shows it.
+    /// The name of its value, as `--help` shows it.
     pub value: &'static str,
-    /// What `--help` says of it.
+    /// Its description in `--help`.
     pub help: &'static str,
-    /// The least number that it takes.
+    /// The smallest number allowed.
     pub least: u64,
-    /// The largest number that it takes.
+    /// The largest number allowed.
     pub most: u64,
-    /// The digits of the number if it is not there.
+    /// The default number, in digits.
     pub usual: &'static str,
 }
 
 impl Number {
-    /// The option as a command takes it. A value that begins with a hyphen and is a number is its value, and refused.
+    /// The option for a command. A negative number after it is taken as its value, and refused.
     pub fn arg<'a>(&self, alloc: Global) -> Arg<'a>
         ensures { rule_of result ≡ record (new_rule self.now.name.now) {
           long = Some self.now.name.now;
@@ -238,7 +238,7 @@ impl Number {
             .help(self.help)
     }
 
-    /// The number that a line has, or the usual one: in any case one in the range.
+    /// The number in a line, or the default one; it is always in the range.
     pub fn of(&self, matches: &ArgMatches<'_>) -> Option<u64>
         ensures none { one_text (found_of matches.now) self.now.name.now ≡ None → result ≡ None }
         ensures range { IfSome result (λ n. (self.now.least ≤ n) × (n ≤ self.now.most)) }
@@ -253,7 +253,7 @@ impl Number {
     }
 }
 
-/// For so many milliseconds a server waits for new entries.
+/// The number of milliseconds that the server waits for new entries.
 pub const BLOCK: Number = Number {
     name: "block",
     value: "MS",
@@ -263,7 +263,7 @@ pub const BLOCK: Number = Number {
     usual: "5000",
 };
 
-/// Entries that others left for so many milliseconds are claimed.
+/// Entries that other consumers left pending for this number of milliseconds are claimed.
 pub const IDLE: Number = Number {
     name: "idle",
     value: "MS",
@@ -273,7 +273,7 @@ pub const IDLE: Number = Number {
     usual: "60000",
 };
 
-/// A worker claims after so many reads of new entries.
+/// A worker claims after this number of reads of new entries.
 pub const EVERY: Number = Number {
     name: "every",
     value: "READS",
@@ -285,7 +285,7 @@ pub const EVERY: Number = Number {
 
 static BEGINNINGS: [&str; 2] = ["0", "$"];
 
-/// The option `--from`: where a group begins that is made.
+/// The option `--from`: where a newly created group begins.
 pub fn from<'a>(alloc: Global) -> Arg<'a>
     ensures id { (rule_of result).id ≡ codes "from" }
     ensures long { (rule_of result).long ≡ Some (codes "from") }
@@ -299,7 +299,7 @@ pub fn from<'a>(alloc: Global) -> Arg<'a>
         .help("Makes a group that is missing: with all entries (0), or with those from then on ($)")
 }
 
-/// An option without a value, as `--json`.
+/// An option without a value, such as `--json`.
 pub fn flag<'a>(alloc: Global, name: &'a str, help: &'a str) -> Arg<'a>
     ensures { rule_of result ≡ record (new_rule name.entry.now) {
       long = Some name.entry.now;
@@ -312,7 +312,7 @@ pub fn flag<'a>(alloc: Global, name: &'a str, help: &'a str) -> Arg<'a>
         .help(help)
 }
 
-/// A word that a line has to have, and that is not empty: `KEY`, say.
+/// A required argument that is not empty, such as `KEY`.
 pub fn name<'a>(alloc: Global, name: &'a str, help: &'a str) -> Arg<'a>
     ensures { rule_of result ≡ record (new_rule name.entry.now) {
       action = Some Set;
@@ -327,7 +327,7 @@ pub fn name<'a>(alloc: Global, name: &'a str, help: &'a str) -> Arg<'a>
         .help(help)
 }
 
-/// An option whose value is the next word, whatever it is: `--table NAME`, say.
+/// An option whose value is the next argument, whatever it is, such as `--table NAME`.
 pub fn text<'a>(alloc: Global, name: &'a str, value: &'a str, help: &'a str) -> Arg<'a>
     ensures { rule_of result ≡ record (new_rule name.entry.now) {
       long = Some name.entry.now;
@@ -344,7 +344,7 @@ pub fn text<'a>(alloc: Global, name: &'a str, value: &'a str, help: &'a str) -> 
         .help(help)
 }
 
-/// An option whose values are the next two words, whatever they are: `--wait REPLICAS MS`, say.
+/// An option whose values are the next two arguments, whatever they are, such as `--wait REPLICAS MS`.
 pub fn pair<'a>(alloc: Global, name: &'a str, values: &'a [&'a str], help: &'a str) -> Arg<'a>
     ensures { rule_of result ≡ record (new_rule name.entry.now) {
       long = Some name.entry.now;
@@ -363,12 +363,12 @@ pub fn pair<'a>(alloc: Global, name: &'a str, values: &'a [&'a str], help: &'a s
         .help(help)
 }
 
-// The values of `--wait`, and how an error names it.
+// The names of the values of `--wait`, and the name of the option in an error.
 static WAIT_VALUES: [&str; 2] = ["REPLICAS", "MS"];
 
 const WAIT: &str = "--wait <REPLICAS> <MS>";
 
-/// The option `--wait`: so many replicas are to confirm within so many milliseconds, `help` says what.
+/// The option `--wait`: this number of replicas have to confirm within the milliseconds; `help` describes what.
 pub fn wait<'a>(alloc: Global, help: &'a str) -> Arg<'a>
     ensures { rule_of result ≡ record (new_rule (codes "wait")) {
       long = Some (codes "wait");
@@ -381,7 +381,7 @@ pub fn wait<'a>(alloc: Global, help: &'a str) -> Arg<'a>
     pair(alloc, "wait", WAIT_VALUES.as_slice(), help)
 }
 
-/// The numbers of `--wait`, each 1 at least, where a line has it: of replicas, and of milliseconds. Any other word is
+/// The numbers of `--wait`, of replicas and of milliseconds, each at least 1; `None` if it is absent. Any other is
 /// refused.
 pub(crate) fn wait_of(
     alloc: Global,
@@ -404,7 +404,7 @@ pub(crate) fn wait_of(
     Ok(Some((replicas, milliseconds)))
 }
 
-/// A number of `--wait`, 1 at least.
+/// A number of `--wait`, at least 1.
 fn positive(alloc: Global, command: &mut Command<'_>, word: &str) -> Result<u64, Error>
     ensures range { IfOk result (λ number. 0 < number) }
     ensures value { IfOk result (λ number. number ≡ number_of word.now) }

@@ -1,4 +1,4 @@
-//! The options that the programs with a worker have in common.
+//! The options that are common to the programs with a worker.
 ghost use Rattle.std.specs.Prelude.{◌≡◌, ◌<◌, ◌∷◌, ◌⊎◌, [], ℕ, List, IfErr, IfOk, IfSome, None, Some, codes, false, option_map, string_bytes};
 ghost use Rattle.clap.specs.Words.{found_of, kind_of, matched_of, new_rule, raw_values, rule_of};
 ghost use Rattle.clap.specs.declared.builder.ArgAction.TheVariants.{Set};
@@ -12,10 +12,10 @@ use std::alloc::Global;
 use worker::dead_letters::GiveUp;
 use worker::{MakeGroup, Settings};
 
-/// The settings of a worker that a line asks for: those of KEY, GROUP and CONSUMER, `--count`, `--block`, `--idle`,
+/// The settings of a worker in a line: those of KEY, GROUP and CONSUMER, `--count`, `--block`, `--idle`,
 /// `--every` and `--from`.
 ///
-/// A name that is empty and a count that a worker does not take are refused.
+/// An empty name is refused, and so is a count that a worker does not accept.
 pub fn settings_of(
     alloc: Global,
     command: &mut Command<'_>,
@@ -37,7 +37,7 @@ pub fn settings_of(
     Ok(settings)
 }
 
-/// The settings of a worker for these names, and the usual ones else.
+/// The settings of a worker with these names, and otherwise the defaults.
 fn named_settings(
     alloc: Global,
     command: &mut Command<'_>,
@@ -57,14 +57,14 @@ fn named_settings(
     }
 }
 
-/// The number that a line has for an option, or its usual one.
+/// The number of an option in a line, or its default.
 fn number_of(matches: &ArgMatches<'_>, number: &Number) -> usize
     ensures { IsNumber (found_of matches.now) number.now.name.now number.now.least number.now.most result }
 {
     number.of(matches).unwrap_or(number.least) as usize
 }
 
-/// Which group the word of `--from` makes.
+/// Which group the value of `--from` creates.
 fn make_group(word: &str) -> MakeGroup
     ensures { MakesGroup word.now result }
 {
@@ -75,7 +75,7 @@ fn make_group(word: &str) -> MakeGroup
     }
 }
 
-// The values of `--dead`, and how an error names it.
+// The names of the values of `--dead`, and the name of the option in an error.
 static DEAD_VALUES: [&str; 2] = ["TIMES", "STREAM"];
 
 const DEAD: &str = "--dead <TIMES> <STREAM>";
@@ -93,8 +93,8 @@ pub fn dead<'a>(alloc: Global, help: &'a str) -> Arg<'a>
     pair(alloc, "dead", DEAD_VALUES.as_slice(), help)
 }
 
-/// After how many deliveries entries are given up, and to which stream, if a line has `--dead`. TIMES is 1 at least, and
-/// STREAM is another one than KEY: any other is refused.
+/// The number of deliveries after which entries are given up, and their stream, if a line has `--dead`. TIMES is at
+/// least 1, and STREAM is not KEY: any other value is refused.
 pub fn give_up_of(
     alloc: Global,
     command: &mut Command<'_>,
@@ -121,7 +121,7 @@ pub fn give_up_of(
     Ok(Some(GiveUp { deliveries, stream }))
 }
 
-/// What `--wait REPLICAS MS` asks of replicas, if a line has it: each number is 1 at least.
+/// The numbers of `--wait REPLICAS MS`, if a line has it: each is at least 1.
 pub fn confirmation_of(
     alloc: Global,
     command: &mut Command<'_>,
