@@ -1,4 +1,4 @@
--- A failover: the server goes back to a state that a replica has.
+-- A failover: the server returns to a state that a replica has.
 pub mod Lookup
 pub mod World
 pub mod Law

@@ -1,4 +1,4 @@
--- Rounds of a worker in which nothing fails.
+-- Rounds of a worker without failures.
 pub mod Page
 pub mod Rounds
 pub mod Bound

@@ -1,5 +1,5 @@
-//! A stream of Redis with a group of consumers as pure machines: rounds that drain it, a producer and a consumer
-//! between crashes, and a failover. It runs nothing: its functions are laws.
+//! A stream of Redis with a consumer group as state machines: rounds that drain it, a producer and a consumer
+//! that crash, and a failover. It runs nothing: its functions are laws.
 #![tactic(auto)]
 
 pub mod failover;

@@ -1,4 +1,4 @@
-//! Rounds of a worker of `model_server::group` in which nothing fails, and how many drain a stream. It runs nothing:
+//! Rounds of a worker of `model_server::group` without failures, and the number that drains a stream. It runs nothing:
 //! its functions are laws.
 
 pub mod laws;

@@ -1,4 +1,4 @@
--- That a failover loses nothing that was confirmed, and brings nothing twice.
+-- A failover loses nothing that was confirmed, and delivers nothing to a file twice.
 use Rattle.std.specs.Prelude.{◌≡◌, ◌≤◌, List, [], ◌∷◌, length, take, Option, Some, None}
 use Rattle.model_server.specs.Group.Worker.{Entry, Delivered, Answer, entries_in}
 use Rattle.model_server.specs.Group.Group.{ids_of}
@@ -16,28 +16,28 @@ use Rattle.model_server.specs.Failover.World.{World, Event, Plain, first_world, 
 abbrev pub after : {F : Type 0} → Setting F → List (Event F) → World F
 after s events = run s events first_world
 
--- with what comes to the server now from the producer, a WAIT comes
+-- if this is a request of the producer that arrives now, a WAIT follows it
 abbrev pub ProducerWaits : {F : Type 0} → Event F → Type 0
 ProducerWaits (Plain (Arrive executes)) = ⊥
 ProducerWaits event = Unit {0}
 
--- so it is of each of these
+-- so does each of these
 abbrev pub ProducerAlwaysWaits : {F : Type 0} → List (Event F) → Type 0
 ProducerAlwaysWaits [] = Unit {0}
 ProducerAlwaysWaits (e ∷ es) = ProducerWaits e × ProducerAlwaysWaits es
 
--- with what comes from the producer or from the consumer, a WAIT comes
+-- if this is a request of the producer or of the consumer that arrives now, a WAIT follows it
 abbrev pub Waits : {F : Type 0} → Event F → Type 0
 Waits (Plain (Arrive executes)) = ⊥
 Waits (Plain (Ask n pick next)) = ⊥
 Waits event = Unit {0}
 
--- so it is of each of these
+-- so does each of these
 abbrev pub AllWait : {F : Type 0} → List (Event F) → Type 0
 AllWait [] = Unit {0}
 AllWait (e ∷ es) = Waits e × AllWait es
 
--- this is no addition by another than the producer
+-- this is no addition by anyone but the producer
 abbrev pub NoneAddedByOthers : {F : Type 0} → Event F → Type 0
 NoneAddedByOthers (Plain event) = NoOtherAdd event
 NoneAddedByOthers event = Unit {0}
@@ -57,11 +57,11 @@ abbrev pub NoOtherAcks : {F : Type 0} → List (Event F) → Type 0
 NoOtherAcks [] = Unit {0}
 NoOtherAcks (e ∷ es) = NoneByOthers e × NoOtherAcks es
 
--- no id is twice in the file, with WAIT or without
+-- no id is twice in the file, with or without WAIT
 abbrev pub FileOnce : Type 0 → Type 0
 FileOnce F = (s : Setting F) (events : List (Event F)) → Once (ids_of (after s events).now.consumer.file)
 
--- nor is it with any server, whatever it delivers: one that forgets all, or gives one id to two entries
+-- this holds with any server, whatever it delivers: one that loses all its data, or gives one id to two entries
 abbrev pub FileOnceOfAnyServer : Type 0 → Type 0
 FileOnceOfAnyServer F = (moves : List (Move F)) → Once (ids_of (moved_on moves new_consumer).file)
 
@@ -70,12 +70,12 @@ abbrev pub FileGrows : Type 0 → Type 0
 FileGrows F = (s : Setting F) (events more : List (Event F))
     → AreFirst (after s events).now.consumer.file (run s more (after s events)).now.consumer.file
 
--- what is in the log is one of the records, with its own fields, with WAIT or without, if nobody else adds
+-- each entry of the log is one of the records, with its own fields, with or without WAIT, if nobody else adds
 abbrev pub LogIsOfRecords : Type 0 → Type 0
 LogIsOfRecords F = (s : Setting F) (events : List (Event F)) → NoOtherAdds events → (e : Entry F)
     → Among e (log (after s events).now) → Among e (entries s.base s.records)
 
--- so is what is in the file
+-- so is each entry of the file
 abbrev pub FileIsOfRecords : Type 0 → Type 0
 FileIsOfRecords F = (s : Setting F) (events : List (Event F)) → NoOtherAdds events → (e : Entry F)
     → Among e (after s events).now.consumer.file → Among e (entries s.base s.records)
@@ -85,7 +85,7 @@ abbrev pub on_the_way : {F : Type 0} → Option (Answer F) → List (Delivered F
 on_the_way None = []
 on_the_way (Some a) = entries_in a
 
--- an entry that comes, and whose id is in the file, has the fields that are there, with WAIT or without, if nobody
+-- a delivered entry whose id is in the file has the fields that are there, with or without WAIT, if nobody
 -- else adds
 abbrev pub ComesAsWritten : Type 0 → Type 0
 ComesAsWritten F = (s : Setting F) → Fit s → (events : List (Event F)) → NoOtherAdds events → (e : Entry F) (fields : F)
@@ -102,36 +102,36 @@ abbrev pub NoDeletes : {F : Type 0} → List (Event F) → Type 0
 NoDeletes [] = Unit {0}
 NoDeletes (e ∷ es) = NoDelete e × NoDeletes es
 
--- with WAIT or without, each entry of the log is to come, or pending, or in the file, if nobody deletes and nobody else
--- adds or acknowledges. So what a failover loses is no longer in the log
+-- with or without WAIT, each entry of the log is undelivered, or pending, or in the file, if nobody deletes and nobody
+-- else adds or acknowledges. So the entries that a failover loses are no longer in the log
 abbrev pub LogIsKept : Type 0 → Type 0
 LogIsKept F = (s : Setting F) → Fit s → (events : List (Event F)) → NoOtherAdds events → NoOtherAcks events
     → NoDeletes events → (e : Entry F) → Among e (log (after s events).now) → IsKept (after s events).now e
 
--- the log is the first of the records, in order, if nobody else adds
+-- the log is a prefix of the records, if nobody else adds
 abbrev pub LogIsFirstRecords : Type 0 → Type 0
 LogIsFirstRecords F = (s : Setting F) → Fit s → (events : List (Event F)) → NoOtherAdds events
     → ProducerAlwaysWaits events
     → AreFirst (log (after s events).now) (entries s.base s.records)
 
--- as many records as the producer takes to be in the stream are in it, whatever happens then, if nobody else adds
+-- the stream has at least as many records as the producer knows to be in it, whatever happens then, if nobody else adds
 abbrev pub KnownStaysIn : Type 0 → Type 0
 KnownStaysIn F = (s : Setting F) → Fit s → (events more : List (Event F)) → NoOtherAdds events → NoOtherAdds more
     → ProducerAlwaysWaits events → ProducerAlwaysWaits more
     → known_in (after s events).now.producer.stage ≤ length (log (run s more (after s events)).now)
 
--- what is in the file is in the log, with its own fields, after any failover, whoever adds
+-- each entry of the file is in the log, with its own fields, after any failover, whoever adds
 abbrev pub FileIsOfLog : Type 0 → Type 0
 FileIsOfLog F = (s : Setting F) (events : List (Event F)) → AllWait events → (e : Entry F)
     → Among e (after s events).now.consumer.file → Among e (log (after s events).now)
 
--- what is in the file is not to come: no failover makes it new again. So no consumer is given it as new
+-- an entry of the file is not undelivered: no failover makes it new again. So no consumer gets it as a new entry
 abbrev pub HandledIsNotNew : Type 0 → Type 0
 HandledIsNotNew F = (s : Setting F) (events : List (Event F)) → AllWait events → (e : Entry F)
     → Among e (after s events).now.consumer.file → Among e (after s events).now.stream.fresh → ⊥
 
--- each record that the producer takes to be in the stream is to come, or pending, or in the file, whatever happens
--- then, if nobody deletes and nobody else adds or acknowledges. For this the consumer need not ask WAIT
+-- each record that the producer knows to be in the stream is undelivered, or pending, or in the file, whatever happens
+-- then, if nobody deletes and nobody else adds or acknowledges. For this the consumer need not send WAIT
 abbrev pub ProducerLosesNothing : Type 0 → Type 0
 ProducerLosesNothing F = (s : Setting F) → Fit s → (events more : List (Event F)) → NoOtherAdds events → NoOtherAdds more
     → ProducerAlwaysWaits events → ProducerAlwaysWaits more → NoOtherAcks events → NoOtherAcks more
@@ -139,7 +139,7 @@ ProducerLosesNothing F = (s : Setting F) → Fit s → (events more : List (Even
     → Among e (take (known_in (after s events).now.producer.stage) (entries s.base s.records))
     → IsKept (run s more (after s events)).now e
 
--- each record that the producer takes to be in the stream is to come, or pending, or in the file, or deleted,
+-- each record that the producer knows to be in the stream is undelivered, or pending, or in the file, or deleted,
 -- whatever happens then, if nobody else adds or acknowledges
 abbrev pub NothingConfirmedIsLost : Type 0 → Type 0
 NothingConfirmedIsLost F = (s : Setting F) → Fit s → (events more : List (Event F)) → NoOtherAdds events → NoOtherAdds more
@@ -147,8 +147,8 @@ NothingConfirmedIsLost F = (s : Setting F) → Fit s → (events more : List (Ev
     → Among e (take (known_in (after s events).now.producer.stage) (entries s.base s.records))
     → IsKept (run s more (after s events)).now e
 
--- if the producer said once that all is in, then when the stream is drained, and nothing is deleted, the file has each
--- record once, if nobody else adds or acknowledges
+-- if the producer once reported that all are in, then when the stream is drained and nothing is deleted, the file has
+-- each record once, if nobody else adds or acknowledges
 abbrev pub EachComesOutOnce : Type 0 → Type 0
 EachComesOutOnce F = (s : Setting F) → Fit s → (events more : List (Event F)) → NoOtherAdds events → NoOtherAdds more
     → AllWait events → AllWait more → NoOtherAcks events → NoOtherAcks more → IsDone s (after s events).now

@@ -1,4 +1,4 @@
--- Entries that come again one at a time, and what the count of a pending entry says then.
+-- Entries that are redelivered one at a time, and what the count of a pending entry means then.
 use Rattle.std.specs.Prelude.{ℕ, ◌+◌, ◌≤◌, List, [], ◌∷◌, length}
 use Rattle.model_server.specs.Group.Worker.{Id, Delivered}
 use Rattle.model_server.specs.Group.Group.{Pending, reread, claim_answer}
@@ -11,13 +11,13 @@ again w (Reread consumer pick) = reread pick consumer w.pending w.deleted w.seen
 again w (Claim consumer pick next) = claim_answer pick w.pending w.deleted w.seen
 again w event = []
 
--- whether the entry of this id, with its fields, is all that they are: 1 or 0
+-- 1 if the entry of this id, with its fields, is the only one of them; else 0
 abbrev pub alone : {F : Type 0} → Id → List (Delivered F) → ℕ
 alone id [] = 0
 alone id (d ∷ []) = times id (whole_one d.0 d.1)
 alone id (d ∷ e ∷ ds) = 0
 
--- how often an event of a schedule redelivers it, and no other entry
+-- the number of events of a schedule that redeliver it, and no other entry
 abbrev pub times_alone : {F : Type 0} → Id → List (Event F) → World F → ℕ
 times_alone id [] w = 0
 times_alone id (e ∷ es) w = alone id (again w e) + times_alone id es (happens w e)
@@ -27,7 +27,7 @@ abbrev pub OneAtATime : {F : Type 0} → List (Event F) → World F → Type 0
 OneAtATime [] w = Unit {0}
 OneAtATime (e ∷ es) w = (length (again w e) ≤ 1) × OneAtATime es (happens w e)
 
--- then the count of a pending entry is of that entry alone: but for its first delivery it was delivered by itself
+-- then the count of a pending entry is of that entry alone: except for its first delivery it was delivered by itself
 -- each time, and it is not acknowledged
 abbrev pub EachIsCountedAlone : Type 0 → Type 0
 EachIsCountedAlone F = (events : List (Event F)) → OneAtATime events empty_world → (p : Pending)

@@ -1,4 +1,4 @@
--- What the server does with a stream and its group, as its documentation says.
+-- What the server does with a stream and its group, according to its documentation.
 use Rattle.std.specs.Prelude.{ℕ, ◌+◌, ◌^◌, zero, suc, nat_lt, nat_eq, decimal, Bool, true, false, not, ◌&&◌, ◌||◌, List}
 use Rattle.std.specs.Prelude.{[], ◌∷◌, ◌++◌, map, filter, Some, None, if◌then◌else◌}
 use Rattle.std.specs.Str.{bytes_eq}
@@ -8,13 +8,13 @@ use Rattle.model_server.specs.Group.Worker.{Id, Entry, Delivered}
 abbrev pub Name : Type 0
 Name = List ℕ
 
--- an entry that was given to a consumer and is not acknowledged, and how often it was delivered
+-- an entry that was delivered to a consumer and is not acknowledged, and its delivery count
 pub record Pending : Type 0 where
   pub id : Id
   pub consumer : Name
   pub count : ℕ
 
--- the two numbers of an id, of 64 bits each: a time in milliseconds, and a number within it
+-- the two numbers of an id, of 64 bits each: a time in milliseconds, and a sequence number
 abbrev pub Numbers : Type 0
 Numbers = ℕ × ℕ
 
@@ -39,7 +39,7 @@ listed (x ∷ xs) id = if bytes_eq x id then true else listed xs id
 abbrev pub ids_of : {F : Type 0} → List (Entry F) → List Id
 ids_of es = map (λ e. e.0) es
 
--- the ids of what is pending
+-- the ids of the pending entries
 abbrev pub pending_ids : List Pending → List Id
 pending_ids ps = map (λ p. p.id) ps
 
@@ -49,7 +49,7 @@ given deleted n [] = []
 given deleted zero (e ∷ es) = []
 given deleted (suc n) (e ∷ es) = if listed deleted e.0 then given deleted (suc n) es else e ∷ given deleted n es
 
--- how far that leads, the deleted ones between them included
+-- the entries up to there, including the deleted ones between them
 abbrev pub passed : {F : Type 0} → List Id → ℕ → List (Entry F) → List (Entry F)
 passed deleted n [] = []
 passed deleted zero (e ∷ es) = []
@@ -77,7 +77,7 @@ as_it_is deleted e = (e.0, if listed deleted e.0 then None else Some e.1)
 abbrev pub own : Name → List Pending → List Id
 own consumer ps = pending_ids (filter (λ p. bytes_eq p.consumer consumer) ps)
 
--- what XREADGROUP with an id returns: of the consumer's pending entries those that are picked, which id and COUNT do,
+-- the entries that XREADGROUP with an id returns: those of the consumer's pending entries that id and COUNT pick,
 -- each with its fields or nil
 abbrev pub reread : {F : Type 0} → (Id → Bool) → Name → List Pending → List Id → List (Entry F) → List (Delivered F)
 reread pick consumer ps deleted seen =
@@ -89,7 +89,7 @@ raised_one pick consumer deleted p =
     if pick p.id && (bytes_eq p.consumer consumer && not (listed deleted p.id)) then record p { count = p.count + 1 }
     else p
 
--- the same of all
+-- the same for all
 abbrev pub raised : (Id → Bool) → Name → List Id → List Pending → List Pending
 raised pick consumer deleted ps = map (raised_one pick consumer deleted) ps
 
@@ -107,11 +107,11 @@ claimed more pick consumer deleted [] = []
 claimed more pick consumer deleted (p ∷ ps) =
     claimed_one more pick consumer deleted p ++ claimed more pick consumer deleted ps
 
--- what it returns
+-- the entries that it returns
 abbrev pub claim_answer : {F : Type 0} → (Id → Bool) → List Pending → List Id → List (Entry F) → List (Delivered F)
 claim_answer pick ps deleted seen = map whole
     (filter (λ e. pick e.0 && (listed (pending_ids ps) e.0 && not (listed deleted e.0))) seen)
 
--- what is pending after an acknowledgement of these
+-- the pending entries after an acknowledgement of these
 abbrev pub pending_after : List Id → List Pending → List Pending
 pending_after ids ps = filter (λ p. not (listed ids p.id)) ps

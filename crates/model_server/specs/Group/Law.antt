@@ -1,4 +1,4 @@
--- That no entry is lost.
+-- No entry is lost.
 use Rattle.std.specs.Prelude.{◌≡◌, ◌⊎◌, ℕ, ◌+◌, ◌≤◌, IsTrue, List, [], ◌∷◌, map, if◌then◌else◌}
 use Rattle.std.specs.Str.{bytes_eq}
 use Rattle.model_server.specs.Group.Worker.{Id, Entry}
@@ -14,11 +14,11 @@ Among x (y ∷ ys) = (y ≡ x) ⊎ Among x ys
 abbrev pub IsPending : {F : Type 0} → World F → Id → Type 0
 IsPending w id = Among id (pending_ids w.pending)
 
--- the entry of this id was handled and its handling committed, or it was deleted from the stream
+-- the entry of this id was handled and that was committed, or it was deleted from the stream
 abbrev pub IsSettled : {F : Type 0} → World F → Id → Type 0
 IsSettled {F} w id = ((fields : F) × Among (id, fields) w.committed) ⊎ Among id w.deleted
 
--- the entry is still to come; or it is pending; or it was handled, with its own fields, and that is committed; or
+-- the entry is undelivered; or it is pending; or it was handled, with its own fields, and that is committed; or
 -- it was deleted from the stream
 abbrev pub IsKept : {F : Type 0} → World F → Entry F → Type 0
 IsKept w e = Among e w.fresh ⊎ (IsPending w e.0 ⊎ (Among e w.committed ⊎ Among e.0 w.deleted))
@@ -28,17 +28,17 @@ abbrev pub EachEntryIsKept : Type 0 → Type 0
 EachEntryIsKept F = (events more : List (Event F)) (e : Entry F) → Among e (log_of (run events empty_world))
     → IsKept (run more (run events empty_world)) e
 
--- what an acknowledgement named is settled
+-- each acknowledged id is settled
 abbrev pub AcknowledgedIsSettled : Type 0 → Type 0
 AcknowledgedIsSettled F = (events : List (Event F)) (id : Id)
     → Among id (run events empty_world).acknowledged_ids → IsSettled (run events empty_world) id
 
--- nothing is handled or committed that was not added with these fields
+-- each handled or committed entry was added with these fields
 abbrev pub HandledIsOfTheLog : Type 0 → Type 0
 HandledIsOfTheLog F = (events : List (Event F)) (e : Entry F)
     → Among e (run events empty_world).handled → Among e (log_of (run events empty_world))
 
--- nothing is committed that was not handled
+-- each committed entry was handled
 abbrev pub CommittedIsHandled : Type 0 → Type 0
 CommittedIsHandled F = (events : List (Event F)) (e : Entry F)
     → Among e (run events empty_world).committed → Among e (run events empty_world).handled
@@ -48,17 +48,17 @@ abbrev pub Ascends : List Numbers → Type 0
 Ascends [] = Unit {0}
 Ascends (n ∷ ns) = ((m : Numbers) → Among m ns → IsTrue (is_below n m)) × Ascends ns
 
--- the order of the log is that of its ids
+-- the log is in the order of its ids
 abbrev pub LogAscends : Type 0 → Type 0
 LogAscends F = (events : List (Event F))
     → (ns : List Numbers) × (ids_of (log_of (run events empty_world)) ≡ map id_text ns) × Ascends ns
 
--- no two entries of the log have one id
+-- no two entries of the log have the same id
 abbrev pub IdsAreUnique : Type 0 → Type 0
 IdsAreUnique F = (events : List (Event F)) (id : Id) (a b : F) → Among (id, a) (log_of (run events empty_world))
     → Among (id, b) (log_of (run events empty_world)) → a ≡ b
 
--- how often it is one of these
+-- the number of its occurrences among these
 abbrev pub times : Id → List Id → ℕ
 times id [] = 0
 times id (x ∷ xs) = (if bytes_eq x id then 1 else 0) + times id xs

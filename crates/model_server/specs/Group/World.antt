@@ -1,4 +1,4 @@
--- The server, the workers and what is on the way between them; and what may happen.
+-- The server, the workers and the messages between them; and the possible events.
 use Rattle.std.specs.Prelude.{ℕ, zero, suc, Bool, ◌&&◌, List, [], ◌∷◌, ◌++◌, map, filter, Option, Some, None}
 use Rattle.std.specs.Prelude.{if◌then◌else◌}
 use Rattle.std.specs.Str.{bytes_eq}
@@ -17,18 +17,18 @@ pub record World (F : Type 0) : Type 0 where
   pub seen : List (Entry F)  -- the log up to the last delivered id
   pub fresh : List (Entry F)  -- the log after it
   pub last : Numbers  -- the last id that was added
-  pub deleted : List Id  -- of the log, what was deleted
+  pub deleted : List Id  -- the ids of the deleted entries of the log
   pub pending : List Pending
-  pub acknowledged_ids : List Id  -- each id that an acknowledgement named
+  pub acknowledged_ids : List Id  -- each acknowledged id
   pub replies : List (Reply F)  -- replies on the way
   pub acks : List (Name × List Id)  -- acknowledgements that were sent
   pub workers : Name → Machine
-  pub handled : List (Entry F)  -- what handlers did, a crash or not
+  pub handled : List (Entry F)  -- what handlers did, whether or not a crash followed
   pub loose : Name → List (Entry F)  -- what a handler did and has not committed
-  pub committed : List (Entry F)  -- what handlers did and committed, which no crash undoes
+  pub committed : List (Entry F)  -- what handlers did and committed: a crash does not undo it
   pub deliveries : List Id  -- each id, once for each reply that has it with its fields
 
--- nothing yet
+-- the start: an empty stream
 abbrev pub empty_world : {F : Type 0} → World F
 empty_world = record {
   seen = [];
@@ -50,33 +50,33 @@ empty_world = record {
 abbrev pub log_of : {F : Type 0} → World F → List (Entry F)
 log_of w = w.seen ++ w.fresh
 
--- what may happen next. A reply that is lost is one that never comes, and so is an acknowledgement
+-- the possible events. A reply that is lost never arrives, and neither does a lost acknowledgement
 pub data Event (F : Type 0) : Type 0 where
   -- XADD; refused if the id is not above the last one
   Append : (id : Numbers) (fields : F) → Event F
-  -- XDEL, or a trimming, which takes entries that nobody was given
+  -- XDEL, or trimming, also of entries that were delivered to nobody
   Delete : (id : Id) → Event F
   -- XREADGROUP with `>` and COUNT n
   Read : (consumer : Name) (n : ℕ) → Event F
   -- XREADGROUP with an id: some of the consumer's own pending entries
   Reread : (consumer : Name) (pick : Id → Bool) → Event F
-  -- XAUTOCLAIM: some of all pending entries, and where the next one goes on
+  -- XAUTOCLAIM: some of all pending entries, and the start of the next one
   Claim : (consumer : Name) (pick : Id → Bool) (next : Id) → Event F
-  -- XAUTOCLAIM or XCLAIM with JUSTID, by whom it may be: the ids alone
+  -- XAUTOCLAIM or XCLAIM with JUSTID, by any consumer: only the ids
   Claim_ids : (consumer : Name) (pick : Id → Bool) → Event F
-  -- the reply of that number comes to its worker, whose handler says this of the entries
+  -- the reply of that number arrives at its worker, whose handler returns these verdicts for the entries
   Comes : (which : ℕ) (verdicts : List Verdict) → Event F
   -- the worker's handler commits what it did
   Commit : (consumer : Name) → Event F
-  -- the worker sends an XACK of what is committed
+  -- the worker sends an XACK of the committed ids
   Acknowledge : (consumer : Name) → Event F
-  -- an XACK reaches the server
+  -- an XACK arrives at the server
   Ack_comes : (which : ℕ) → Event F
-  -- the worker goes back to what is pending for it
+  -- the worker starts over with its own pending entries
   Go_back : (consumer : Name) → Event F
-  -- the worker loses all that it knows, and what its handler did and did not commit, and is started again. If the
-  -- crash cut a commit off, it may keep some of that all the same, which is then committed. The worker begins to
-  -- acknowledge those of these ids that are committed, so only what no crash undoes; or nothing, if there are none
+  -- the worker loses its state, and what its handler did and did not commit, and is started again. If the
+  -- crash interrupted a commit, a part of it may be kept, which is then committed. The worker starts to
+  -- acknowledge those of these ids that are committed: what a crash does not undo. There may be none
   Crash : (consumer : Name) (every : ℕ) (keeps : Entry F → Bool) (ids : List Id) → Event F
 
 -- the item of that number
@@ -85,13 +85,13 @@ item [] n = None
 item (x ∷ xs) zero = Some x
 item (x ∷ xs) (suc n) = item xs n
 
--- the items but the one of that number
+-- the items except the one of that number
 abbrev pub but : {A : Type 0} → List A → ℕ → List A
 but [] n = []
 but (x ∷ xs) zero = xs
 but (x ∷ xs) (suc n) = x ∷ but xs n
 
--- the same for others, and this for the one
+-- the function changed at this one name
 abbrev pub with_one : {A : Type 0} → (Name → A) → Name → A → Name → A
 with_one each name a other = if bytes_eq name other then a else each other
 
@@ -109,12 +109,12 @@ abbrev pub whole_one : {F : Type 0} → Id → Option F → List Id
 whole_one id None = []
 whole_one id (Some fields) = id ∷ []
 
--- the same of all
+-- the same for all
 abbrev pub whole_ids : {F : Type 0} → List (Delivered F) → List Id
 whole_ids [] = []
 whole_ids (d ∷ ds) = whole_one d.0 d.1 ++ whole_ids ds
 
--- a reply goes on its way
+-- a reply is sent
 abbrev pub replied : {F : Type 0} → World F → Name → Answer F → World F
 replied w consumer a = record w {
   replies = record { consumer = consumer; answer = a } ∷ w.replies;
@@ -143,7 +143,7 @@ claim w consumer pick next =
       pending = claimed 1 pick consumer w.deleted w.pending;
     }
 
--- a reply comes to its worker, whose handler does what is to be done
+-- a reply arrives at its worker, whose handler handles its entries
 abbrev pub comes : {F : Type 0} → World F → ℕ → Option (Reply F) → List Verdict → World F
 comes w which None verdicts = w
 comes w which (Some r) verdicts = record w {
@@ -161,7 +161,7 @@ commits w consumer = record w {
   workers = with_one w.workers consumer (after_commit (w.workers consumer));
 }
 
--- an acknowledgement comes to the server
+-- an acknowledgement arrives at the server
 abbrev pub ack_comes : {F : Type 0} → World F → Option (Name × List Id) → World F
 ack_comes w None = w
 ack_comes w (Some a) = record (replied w a.0 acknowledged) {
@@ -169,7 +169,7 @@ ack_comes w (Some a) = record (replied w a.0 acknowledged) {
   acknowledged_ids = w.acknowledged_ids ++ a.1;
 }
 
--- what is committed after a crash that keeps these of what the handler did
+-- the committed entries after a crash that keeps these of what the handler did
 abbrev pub committed_after : {F : Type 0} → World F → Name → (Entry F → Bool) → List (Entry F)
 committed_after w consumer keeps = w.committed ++ filter keeps (w.loose consumer)
 
@@ -185,7 +185,7 @@ crashes w consumer every keeps ids = record w {
   committed = committed_after w consumer keeps;
 }
 
--- what an event makes of the world
+-- the world after an event
 abbrev pub happens : {F : Type 0} → World F → Event F → World F
 happens w (Append id fields) = appended w id fields
 happens w (Delete id) = deleted_from w id

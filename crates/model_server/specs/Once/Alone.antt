@@ -1,4 +1,4 @@
--- Entries that come again one at a time, to the consumer and to others.
+-- Entries that are redelivered one at a time, to the consumer and to others.
 use Rattle.std.specs.Prelude.{ℕ, ◌+◌, ◌≤◌, Bool, List, [], ◌∷◌, length, if◌then◌else◌}
 use Rattle.model_server.specs.Group.Worker.{Id, Delivered, Phase, own, claiming, reading}
 use Rattle.model_server.specs.Group.Group.{Name, Pending}
@@ -9,7 +9,7 @@ use Rattle.model_server.specs.Once.Consumer.{is_idle}
 use Rattle.model_server.specs.Once.World.{Setting, World, Event, Ask, Else, first_world, happens}
 use Rattle.model_server.specs.Once.Law.{after}
 
--- the entries that are redelivered to the consumer, by what its phase asks
+-- the entries that are redelivered to the consumer, by what its phase requests
 abbrev pub asked_again : {F : Type 0} → Name → (Id → Bool) → Id → Phase → group.World F → List (Delivered F)
 asked_again name pick next (own behind) w = alone.again w (group.Reread name pick)
 asked_again name pick next (claiming from) w = alone.again w (group.Claim name pick next)
@@ -22,7 +22,7 @@ again s w (Ask n pick next) =
 again s w (Else event) = alone.again w.stream event
 again s w event = []
 
--- how often an event of a schedule redelivers the entry of this id, and no other entry
+-- the number of events of a schedule that redeliver the entry of this id, and no other entry
 abbrev pub times_alone : {F : Type 0} → Setting F → Id → List (Event F) → World F → ℕ
 times_alone s id [] w = 0
 times_alone s id (e ∷ es) w = alone.alone id (again s w e) + times_alone s id es (happens s w e)

@@ -9,13 +9,13 @@ use Rattle.model_server.specs.Group.Group.{Name, ids_of, given, whole, reread, c
 use Rattle.model_server.specs.Group.World.{read, read_again, claim}
 use Rattle.model_server.specs.Group.World as group
 
--- the consumer, its connection and its file. An entry is there as its line
+-- the consumer, its connection and its file. Each entry is there as its line
 pub record Consumer (F : Type 0) : Type 0 where
   pub machine : Machine
   pub answer : Option (Answer F)  -- the reply on the way to it
   pub lines : List (Entry F)  -- lines that it wrote, or will write, and has not synced
-  pub file : List (Entry F)  -- lines that no crash takes back
-  pub last_commit : ℕ  -- how many lines the last commit added
+  pub file : List (Entry F)  -- lines that no crash removes
+  pub last_commit : ℕ  -- the number of lines that the last commit added
 
 -- one that is started on an empty file
 abbrev pub new_consumer : {F : Type 0} → Consumer F
@@ -26,11 +26,11 @@ abbrev pub is_empty : {A : Type 0} → List A → Bool
 is_empty [] = true
 is_empty (x ∷ xs) = false
 
--- it asks for entries only if all that it did is committed and acknowledged, and no reply is on the way
+-- it requests entries only if all that it did is committed and acknowledged, and no reply is on the way
 abbrev pub is_idle : {F : Type 0} → Consumer F → Bool
 is_idle c = is_none c.answer && (is_empty c.machine.to_commit && is_empty c.machine.to_acknowledge)
 
--- it asks for what its phase says, with COUNT n, and of what is pending the server picks these: the stream then
+-- the stream after it requests what its phase requires, with COUNT n; the server picks these of the pending entries
 abbrev pub after_asking : {F : Type 0} → Name → ℕ → (Id → Bool) → Id → Phase → group.World F → group.World F
 after_asking name n pick next (own behind) w = read_again w name pick
 after_asking name n pick next (claiming from) w = claim w name pick next
@@ -42,7 +42,7 @@ answer_for name n pick next (own behind) w = own_pending (reread pick name w.pen
 answer_for name n pick next (claiming from) w = taken_over next (claim_answer pick w.pending w.deleted w.seen)
 answer_for name n pick next (reading rounds) w = news (map whole (given w.deleted n w.fresh))
 
--- a reply comes to it: its handler says this of the entries, and a line is added for each that it did
+-- it gets a reply: its handler returns these verdicts for the entries, and a line is added for each that is done
 abbrev pub takes : {F : Type 0} → List Verdict → Option (Answer F) → Consumer F → Consumer F
 takes verdicts None c = c
 takes verdicts (Some a) c = record c {
@@ -64,17 +64,17 @@ syncs c = record c {
 abbrev pub commits : {F : Type 0} → Consumer F → Consumer F
 commits c = if is_none c.answer && is_empty c.machine.to_acknowledge then syncs c else c
 
--- the last n lines of a file, or all
+-- the last n lines of a file, or all lines
 abbrev pub last_lines : {F : Type 0} → ℕ → List (Entry F) → List (Entry F)
 last_lines n file = drop (length file - n) file
 
--- how many lines the last commit added: if a crash cut a commit off, those lines of it that are in the file
+-- the number of lines that the last commit added: if a crash interrupted it, those lines of it that are in the file
 abbrev pub last_added : {F : Type 0} → ℕ → List (Entry F) → ℕ
 last_added before [] = before
 last_added before (e ∷ es) = length (e ∷ es)
 
--- it crashes and is started again, to claim after `every` reads. The first `kept` lines of a commit that the crash cut
--- off may be in the file all the same. It acknowledges what the last lines of its file name: those of the last commit,
+-- it crashes and is started again, to claim after `every` reads. The first `kept` lines of a commit that the crash
+-- interrupted may be in the file. It acknowledges the ids of the last lines of its file: those of the last commit,
 -- and `more` before them
 abbrev pub restarts : {F : Type 0} → (every kept more : ℕ) → Consumer F → Consumer F
 restarts every kept more c = record {
@@ -86,6 +86,6 @@ restarts every kept more c = record {
   last_commit = last_added c.last_commit (take kept c.lines);
 }
 
--- its connection breaks: no reply comes, and it begins again with what is pending for it
+-- its connection breaks: no reply arrives, and it starts over with its own pending entries
 abbrev pub reconnects : {F : Type 0} → Consumer F → Consumer F
 reconnects c = record c { machine = begins_again c.machine; answer = None }

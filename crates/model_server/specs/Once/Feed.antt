@@ -1,4 +1,4 @@
--- A producer that adds numbered records to a stream, as a machine: what it asks, and what it makes of the replies.
+-- A producer that adds numbered records to a stream, as a state machine: its requests, and its state after the replies.
 use Rattle.std.specs.Prelude.{ℕ, ◌+◌, ◌-◌, List, [], ◌∷◌, map, take, drop, length, Option, Some, None}
 use Rattle.model_server.specs.Group.Worker.{Entry}
 use Rattle.model_server.specs.Group.Group.{Numbers, id_text}
@@ -12,35 +12,35 @@ abbrev pub numbered : {F : Type 0} → ℕ → List F → List (Numbered F)
 numbered base [] = []
 numbered base (r ∷ rs) = ((base + 1, 0), r) ∷ numbered (base + 1) rs
 
--- a record as it is in the stream
+-- a record as an entry of the stream
 abbrev pub as_entry : {F : Type 0} → Numbered F → Entry F
 as_entry r = (id_text r.0, r.1)
 
--- the entries that the records make
+-- the entries of the records
 abbrev pub entries : {F : Type 0} → ℕ → List F → List (Entry F)
 entries base records = map as_entry (numbered base records)
 
--- what the producer knows of the stream
+-- what the producer knows about the stream
 pub data Stage : Type 0 where
-  -- nothing: it asks for the last id
+  -- nothing: it requests the last id
   asking : Stage
   -- the first `known` records are in the stream
   knows : (known : ℕ) → Stage
   -- the same, and it waits for the reply to a batch of the next `sent` records
   waits : (known sent : ℕ) → Stage
 
--- what it asks
+-- a request of the producer
 pub data Request (F : Type 0) : Type 0 where
   -- XINFO STREAM, for the last id
   ask_last : Request F
   -- MULTI, an XADD of each record with its id, and EXEC
   batch : (records : List (Numbered F)) → Request F
 
--- what the server replies
+-- a reply of the server
 pub data Answer : Type 0 where
-  -- to a batch: each XADD added its record, or was refused since its id is not above the last one
+  -- to a batch: each XADD added its record, or was refused because its id is not above the last one
   executed : Answer
-  -- to either: it was refused, a batch whole
+  -- to either: it was refused, a batch as a whole
   refused : Answer
   -- to XINFO STREAM: the last id that was added, `0-0` if there is no stream
   last_is : (last : Numbers) → Answer
@@ -49,29 +49,29 @@ pub data Answer : Type 0 where
 abbrev pub next_batch : {F : Type 0} → ℕ → ℕ → List (Numbered F) → List (Numbered F)
 next_batch count known all = take count (drop known all)
 
--- it asks to add these, and asks nothing if there are none
+-- it requests to add these, and sends nothing if there are none
 abbrev pub adding : {F : Type 0} → List (Numbered F) → Option (Request F)
 adding [] = None
 adding (r ∷ rs) = Some (batch (r ∷ rs))
 
--- then it waits for the reply, if there is one
+-- then it waits for the reply, if a request was sent
 abbrev pub waiting : {F : Type 0} → ℕ → List (Numbered F) → Stage
 waiting known [] = knows known
 waiting known (r ∷ rs) = waits known (length (r ∷ rs))
 
--- what it asks next, of all records: nothing while it waits, and nothing if all are in
+-- its next request, of all records: none while it waits, and none if all are in
 abbrev pub request : {F : Type 0} → ℕ → List (Numbered F) → Stage → Option (Request F)
 request count all asking = Some ask_last
 request count all (knows known) = adding (next_batch count known all)
 request count all (waits known sent) = None
 
--- its stage once that was sent
+-- its stage after that was sent
 abbrev pub requested : {F : Type 0} → ℕ → List (Numbered F) → Stage → Stage
 requested count all asking = asking
 requested count all (knows known) = waiting known (next_batch count known all)
 requested count all (waits known sent) = waits known sent
 
--- its stage once a reply came. The last id says how many records are in; after a refusal it asks for that again
+-- its stage after a reply. The last id determines how many records are in; after a refusal it requests that again
 abbrev pub learns : ℕ → Stage → Answer → Stage
 learns base asking (last_is last) = knows (last.0 - base)
 learns base asking executed = asking
@@ -81,7 +81,7 @@ learns base (waits known sent) refused = asking
 learns base (waits known sent) (last_is last) = asking
 learns base (knows known) answer = asking
 
--- how many records it takes to be in the stream
+-- the number of records that it knows to be in the stream
 abbrev pub known_in : Stage → ℕ
 known_in asking = 0
 known_in (knows known) = known

@@ -1,4 +1,4 @@
--- That what goes in comes out, once.
+-- Each record comes out, once.
 use Rattle.std.specs.Prelude.{◌⊎◌, ◌≡◌, ◌+◌, ◌<◌, ◌≤◌, ◌^◌, List, [], ◌∷◌, ◌++◌, length}
 use Rattle.model_server.specs.Group.Worker.{Id, Entry}
 use Rattle.model_server.specs.Group.Group.{ids_of, pending_ids}
@@ -16,15 +16,15 @@ Fit s = s.base + length s.records < 2 ^ 64
 abbrev pub after : {F : Type 0} → Setting F → List (Event F) → World F
 after s events = run s events first_world
 
--- each entry that was ever added to the stream, in order, deleted ones included
+-- each entry that was ever added to the stream, in order, including deleted ones
 abbrev pub log : {F : Type 0} → World F → List (Entry F)
 log w = log_of w.stream
 
--- these are the first of those, in the same order
+-- these are a prefix of those
 abbrev pub AreFirst : {A : Type 0} → List A → List A → Type 0
 AreFirst {A} xs ys = (rest : List A) × (xs ++ rest ≡ ys)
 
--- none of these ids is there twice
+-- none of these ids occurs twice
 abbrev pub Once : List Id → Type 0
 Once [] = Unit {0}
 Once (id ∷ ids) = (Among id ids → ⊥) × Once ids
@@ -39,7 +39,7 @@ abbrev pub NoOtherAdds : {F : Type 0} → List (Event F) → Type 0
 NoOtherAdds [] = Unit {0}
 NoOtherAdds (e ∷ es) = NoOtherAdd e × NoOtherAdds es
 
--- the log is the first of the records, in order, with their own fields, if nobody else adds
+-- the log is a prefix of the records, with their own fields, if nobody else adds
 abbrev pub LogIsFirstRecords : Type 0 → Type 0
 LogIsFirstRecords F = (s : Setting F) → Fit s → (events : List (Event F)) → NoOtherAdds events
     → AreFirst (log (after s events)) (entries s.base s.records)
@@ -48,16 +48,16 @@ LogIsFirstRecords F = (s : Setting F) → Fit s → (events : List (Event F)) �
 abbrev pub LogOnce : Type 0 → Type 0
 LogOnce F = (s : Setting F) (events : List (Event F)) → Once (ids_of (log (after s events)))
 
--- as many records as the producer takes to be in the stream are in it, if nobody else adds
+-- the stream has at least as many records as the producer knows to be in it, if nobody else adds
 abbrev pub KnownIsIn : Type 0 → Type 0
 KnownIsIn F = (s : Setting F) → Fit s → (events : List (Event F)) → NoOtherAdds events
     → known_in (after s events).producer.stage ≤ length (log (after s events))
 
--- the producer says that all records are in
+-- the producer reports that all records are in
 abbrev pub IsDone : {F : Type 0} → Setting F → World F → Type 0
 IsDone s w = w.producer.stage ≡ knows (length s.records)
 
--- if it says so, the log is all records, if nobody else adds
+-- if it does, the log is all records, if nobody else adds
 abbrev pub DoneIsAll : Type 0 → Type 0
 DoneIsAll F = (s : Setting F) → Fit s → (events : List (Event F)) → NoOtherAdds events
     → IsDone s (after s events) → log (after s events) ≡ entries s.base s.records
@@ -76,7 +76,7 @@ FileGrows F = (s : Setting F) (events more : List (Event F))
 abbrev pub FileOnce : Type 0 → Type 0
 FileOnce F = (s : Setting F) (events : List (Event F)) → Once (ids_of (after s events).consumer.file)
 
--- what is in the file is of the log, with its own fields
+-- each entry of the file is in the log, with its own fields
 abbrev pub FileIsOfLog : Type 0 → Type 0
 FileIsOfLog F = (s : Setting F) (events : List (Event F)) (e : Entry F)
     → Among e (after s events).consumer.file → Among e (log (after s events))
@@ -91,19 +91,19 @@ abbrev pub NoOtherAcks : {F : Type 0} → List (Event F) → Type 0
 NoOtherAcks [] = Unit {0}
 NoOtherAcks (e ∷ es) = NoOtherAck e × NoOtherAcks es
 
--- the entry is still to come; or it is pending; or it is in the file, with its own fields; or it was deleted from the
+-- the entry is undelivered; or it is pending; or it is in the file, with its own fields; or it was deleted from the
 -- stream
 abbrev pub IsKept : {F : Type 0} → World F → Entry F → Type 0
 IsKept w e =
     Among e w.stream.fresh
     ⊎ (Among e.0 (pending_ids w.stream.pending) ⊎ (Among e w.consumer.file ⊎ Among e.0 w.stream.deleted))
 
--- each entry that was added is, if nobody else acknowledges
+-- this holds for each entry that was added, if nobody else acknowledges
 abbrev pub EachIsKept : Type 0 → Type 0
 EachIsKept F = (s : Setting F) (events : List (Event F)) → NoOtherAcks events → (e : Entry F)
     → Among e (log (after s events)) → IsKept (after s events) e
 
--- nothing is pending, and nothing is to come
+-- no entry is pending, and none is undelivered
 abbrev pub IsDrained : {F : Type 0} → World F → Type 0
 IsDrained w = (w.stream.pending ≡ []) × (w.stream.fresh ≡ [])
 
@@ -119,7 +119,7 @@ EachComesOutOnce F = (s : Setting F) → Fit s → (events : List (Event F)) →
     → IsDone s (after s events) → IsDrained (after s events) → (after s events).stream.deleted ≡ []
     → HasEachOnce (after s events).consumer.file (entries s.base s.records)
 
--- if one consumer reads all in order, its file is at any moment the first of the log
+-- if one consumer reads all in order, its file is always a prefix of the log
 abbrev pub FileIsFirstOfLog : Type 0 → Type 0
 FileIsFirstOfLog F = (s : Setting F) (events : List (Event F)) → AllInOrder s first_world events
     → AreFirst (after s events).consumer.file (log (after s events))

@@ -18,11 +18,11 @@ pub record Many (F : Type 0) : Type 0 where
   pub producer : Producer F
   pub consumers : Name → Consumer F
 
--- nothing yet
+-- the start: no entry yet
 abbrev pub first_many : {F : Type 0} → Many F
 first_many = record { stream = empty_world; producer = new_producer; consumers = λ name. new_consumer }
 
--- the world with this one of the consumers
+-- the world seen by one of the consumers
 abbrev pub world_of : {F : Type 0} → Many F → Name → World F
 world_of m name = record { stream = m.stream; producer = m.producer; consumer = m.consumers name }
 
@@ -30,7 +30,7 @@ world_of m name = record { stream = m.stream; producer = m.producer; consumer = 
 abbrev pub setting_of : {F : Type 0} → Setting F → Name → Setting F
 setting_of s name = record { records = s.records; base = s.base; name = name }
 
--- something happened to the world with this consumer
+-- the state with the world of this consumer replaced by this one
 abbrev pub with_world : {F : Type 0} → Many F → Name → World F → Many F
 with_world m name w = record {
   stream = w.stream;
@@ -38,7 +38,7 @@ with_world m name w = record {
   consumers = with_one m.consumers name w.consumer;
 }
 
--- an event of this consumer, or of the producer, the stream and others around it
+-- an event of this consumer, or of the producer, the stream and others
 abbrev pub happens_to : {F : Type 0} → Setting F → Many F → Name → Event F → Many F
 happens_to s m name e = with_world m name (happens (setting_of s name) (world_of m name) e)
 
@@ -56,30 +56,30 @@ on_the_way (Some a) = map (λ d. d.0) (entries_in a)
 abbrev pub Has : {F : Type 0} → Consumer F → Id → Type 0
 Has c id = Among id (on_the_way c.answer) ⊎ Among id (ids_of (c.file ++ c.lines))
 
--- a claim for the consumer of this name takes nothing that another consumer has
+-- a claim for the consumer of this name takes no entry that another consumer has
 abbrev pub TakesNone : {F : Type 0} → Many F → Name → (Id → Bool) → Type 0
 TakesNone m name pick = (id : Id) → pick id ≡ true → Among id (pending_ids m.stream.pending)
     → (other : Name) → Has (m.consumers other) id → other ≡ name
 
--- nor does what a consumer asks for in this phase
+-- neither does the request of a consumer in this phase
 abbrev pub FairAsk : {F : Type 0} → Many F → Name → (Id → Bool) → Phase → Type 0
 FairAsk m name pick (own behind) = Unit {0}
 FairAsk m name pick (claiming from) = TakesNone m name pick
 FairAsk m name pick (reading rounds) = Unit {0}
 
--- nor does a claim that comes late, or one with JUSTID
+-- neither does a claim that arrives late, or one with JUSTID
 abbrev pub FairElse : {F : Type 0} → Many F → group.Event F → Type 0
 FairElse m (Claim name pick next) = TakesNone m name pick
 FairElse m (Claim_ids name pick) = TakesNone m name pick
 FairElse m event = Unit {0}
 
--- the event claims nothing that another consumer has
+-- the event claims no entry that another consumer has
 abbrev pub IsFair : {F : Type 0} → Many F → Name → Event F → Type 0
 IsFair m name (Ask n pick next) = FairAsk m name pick (m.consumers name).machine.phase
 IsFair m name (Else event) = FairElse m event
 IsFair m name event = Unit {0}
 
--- so does each of these, from this world on
+-- the same for each of these, from this world on
 abbrev pub AllFair : {F : Type 0} → Setting F → Many F → List (Name × Event F) → Type 0
 AllFair s m [] = Unit {0}
 AllFair s m (e ∷ es) = IsFair m e.0 e.1 × AllFair s (happens_to s m e.0 e.1) es
@@ -93,12 +93,12 @@ abbrev pub EachFileOnce : Type 0 → Type 0
 EachFileOnce F = (s : Setting F) (events : List (Name × Event F)) (name : Name)
     → Once (ids_of (file_after s events name))
 
--- what is in any of them is of the log, with its own fields
+-- each entry of any of them is in the log, with its own fields
 abbrev pub EachFileIsOfLog : Type 0 → Type 0
 EachFileIsOfLog F = (s : Setting F) (events : List (Name × Event F)) (name : Name) (e : Entry F)
     → Among e (file_after s events name) → Among e (log_of (run_many s events first_many).stream)
 
--- if no claim takes what another consumer has, no id is in two files
+-- if no claim takes an entry that another consumer has, no id is in two files
 abbrev pub NoneInTwoFiles : Type 0 → Type 0
 NoneInTwoFiles F = (s : Setting F) (events : List (Name × Event F)) → AllFair s first_many events
     → (id : Id) (one other : Name) → Among id (ids_of (file_after s events one))
@@ -108,13 +108,13 @@ NoneInTwoFiles F = (s : Setting F) (events : List (Name × Event F)) → AllFair
 abbrev pub InSomeFile : {F : Type 0} → Many F → Entry F → Type 0
 InSomeFile m e = (name : Name) × Among e (m.consumers name).file
 
--- the entry is still to come; or it is pending; or it is in one of the files; or it was deleted from the stream
+-- the entry is undelivered; or it is pending; or it is in one of the files; or it was deleted from the stream
 abbrev pub IsKeptByOne : {F : Type 0} → Many F → Entry F → Type 0
 IsKeptByOne m e =
     Among e m.stream.fresh
     ⊎ (Among e.0 (pending_ids m.stream.pending) ⊎ (InSomeFile m e ⊎ Among e.0 m.stream.deleted))
 
--- each entry that was added is, if nobody but these consumers acknowledges
+-- this holds for each entry that was added, if nobody but these consumers acknowledges
 abbrev pub EachIsKeptByOne : Type 0 → Type 0
 EachIsKeptByOne F = (s : Setting F) (events : List (Name × Event F)) → NoOtherAcks (map (λ e. e.1) events)
     → (e : Entry F) → Among e (log_of (run_many s events first_many).stream)
@@ -127,7 +127,7 @@ InOneFile m e =
     × (Among e (m.consumers name).file × ((other : Name) → Among e.0 (ids_of (m.consumers other).file) → name ≡ other))
 
 -- if the producer is done, the stream drained, and nothing deleted, each record is in one of the files, and in no
--- other; if nobody else adds or acknowledges, and no claim takes what another consumer has
+-- other; if nobody else adds or acknowledges, and no claim takes an entry that another consumer has
 abbrev pub EachComesOutInOneFile : Type 0 → Type 0
 EachComesOutInOneFile F = (s : Setting F) → Fit s → (events : List (Name × Event F))
     → NoOtherAdds (map (λ e. e.1) events) → NoOtherAcks (map (λ e. e.1) events) → AllFair s first_many events

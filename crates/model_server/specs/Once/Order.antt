@@ -8,14 +8,14 @@ use Rattle.model_server.specs.Group.World as group
 use Rattle.model_server.specs.Once.World.{Setting, World, Event, Ask, Take}
 use Rattle.model_server.specs.Once.World.{Else, happens}
 
--- the handler does an entry or says to stop at it: it never leaves one pending and goes on to the next
+-- the handler returns `done` or `stop` for each entry: it never leaves one pending and continues with the next
 abbrev pub LeavesNone : List Verdict → Type 0
 LeavesNone [] = Unit {0}
 LeavesNone (done ∷ vs) = LeavesNone vs
 LeavesNone (left_pending ∷ vs) = ⊥
 LeavesNone (stop ∷ vs) = LeavesNone vs
 
--- if the consumer asks for its own pending entries, the server returns the first n + 1 of them: it asks from the
+-- if the consumer requests its own pending entries, the server returns the first n + 1 of them: the request is from the
 -- first on, with a COUNT that is not 0
 abbrev pub FromFirst : {F : Type 0} → Name → ℕ → (Id → Bool) → Phase → group.World F → Type 0
 FromFirst name n pick (own behind) w =
@@ -24,21 +24,21 @@ FromFirst name n pick (own behind) w =
 FromFirst name n pick (claiming from) w = Unit {0}
 FromFirst name n pick (reading rounds) w = Unit {0}
 
--- others add to the stream, or an acknowledgement comes late, and no other thing happens to it. Nobody deletes, reads or
--- claims, and no read of a connection that broke takes effect
+-- others add to the stream, or an acknowledgement arrives late, and nothing else happens to it. Nobody deletes, reads
+-- or claims, and no read of a connection that broke takes effect
 abbrev pub KeepsOrder : {F : Type 0} → group.Event F → Type 0
 KeepsOrder (Append id fields) = Unit {0}
 KeepsOrder (Ack_comes which) = Unit {0}
 KeepsOrder event = ⊥
 
--- the event may be in such a schedule, in this world
+-- the event is allowed in such a schedule, in this world
 abbrev pub InOrder : {F : Type 0} → Setting F → World F → Event F → Type 0
 InOrder s w (Ask n pick next) = FromFirst s.name n pick w.consumer.machine.phase w.stream
 InOrder s w (Take verdicts) = LeavesNone verdicts
 InOrder s w (Else event) = KeepsOrder event
 InOrder s w event = Unit {0}
 
--- so may each of these, from this world on
+-- so is each of these, from this world on
 abbrev pub AllInOrder : {F : Type 0} → Setting F → World F → List (Event F) → Type 0
 AllInOrder s w [] = Unit {0}
 AllInOrder s w (e ∷ es) = InOrder s w e × AllInOrder s (happens s w e) es

@@ -1,4 +1,4 @@
--- A producer, a stream with a group, and a consumer with its file; and what may happen.
+-- A producer, a stream with a group, and a consumer with its file; and the possible events.
 use Rattle.std.specs.Prelude.{ℕ, List, [], ◌∷◌, Bool, Some, if◌then◌else◌}
 use Rattle.std.specs.Option.{is_none}
 use Rattle.model_server.specs.Group.Worker.{Id, Verdict, acknowledged}
@@ -10,9 +10,9 @@ use Rattle.model_server.specs.Once.Producer.{Producer, new_producer, sends, arri
 use Rattle.model_server.specs.Once.Consumer.{Consumer, new_consumer, is_idle, after_asking, answer_for, takes, commits, restarts}
 use Rattle.model_server.specs.Once.Consumer.{reconnects}
 
--- what never changes
+-- the values that never change
 pub record Setting (F : Type 0) : Type 0 where
-  pub records : List F  -- what the producer adds
+  pub records : List F  -- the records that the producer adds
   pub base : ℕ  -- the first record has the id `(base + 1)-0`
   pub name : Name  -- the consumer's name
 
@@ -22,57 +22,57 @@ pub record World (F : Type 0) : Type 0 where
   pub producer : Producer F
   pub consumer : Consumer F
 
--- nothing yet
+-- the start: no entry yet
 abbrev pub first_world : {F : Type 0} → World F
 first_world = record { stream = empty_world; producer = new_producer; consumer = new_consumer }
 
--- what may happen next. What is lost is what never comes
+-- the possible events. A lost message never arrives
 pub data Event (F : Type 0) : Type 0 where
-  -- the producer sends what it asks next, a batch of at most `count` records or its question, in one write
+  -- the producer sends its next request, a batch of at most `count` records or one for the last id, in one write
   Send : (count : ℕ) → Event F
-  -- that comes to the server, which executes it, or refuses it whole
+  -- that arrives at the server, which executes it, or refuses it as a whole
   Arrive : (executes : Bool) → Event F
-  -- the same of what was sent on a connection that broke
+  -- the same for a request that was sent on a connection that broke
   Arrive_late : (which : ℕ) (executes : Bool) → Event F
-  -- the reply comes to the producer
+  -- the reply arrives at the producer
   Hear : Event F
   -- the producer's connection breaks, or the producer crashes and is started again
   Break : Event F
-  -- the consumer asks for entries, with COUNT n; if they are pending ones, the server picks among them, and says the
-  -- id from which the next claim goes on
+  -- the consumer requests entries, with COUNT n. If they are pending ones, the server picks among them, and returns the
+  -- id from which the next claim continues
   Ask : (n : ℕ) (pick : Id → Bool) (next : Id) → Event F
-  -- the reply comes to the consumer, whose handler says this of the entries
+  -- the reply arrives at the consumer, whose handler returns these verdicts for the entries
   Take : (verdicts : List Verdict) → Event F
   -- the consumer commits: one write and one sync of its lines
   Sync : Event F
-  -- the consumer sends an XACK, which comes to the server, and its reply is on the way
+  -- the consumer sends an XACK, which arrives at the server, and its reply is on the way
   Acknowledge_now : Event F
-  -- the consumer sends an XACK that may come to the server at any time, or never, and whose reply does not come
+  -- the consumer sends an XACK that may arrive at the server at any time, or never, and whose reply does not arrive
   Acknowledge_later : Event F
   -- the consumer's connection breaks
   Reconnect : Event F
   -- the consumer crashes and is started again, to claim after `every` reads. In the file are `kept` lines that were
-  -- written and not synced, and it reads back `more` lines than it has to
+  -- written and not synced, and it reads back `more` lines than necessary
   Restart : (every kept more : ℕ) → Event F
-  -- what else the server sees: entries that others add, deletions, acknowledgements that come late, other consumers, and
-  -- what was asked on connections that broke
+  -- other events of the server: entries that others add, deletions, late acknowledgements, other consumers, and
+  -- requests on connections that broke
   Else : (event : group.Event F) → Event F
 
--- the consumer asks for entries, and the reply is on the way
+-- the consumer requests entries, and the reply is on the way
 abbrev pub asked : {F : Type 0} → Name → ℕ → (Id → Bool) → Id → World F → World F
 asked name n pick next w = record w {
   stream = after_asking name n pick next w.consumer.machine.phase w.stream;
   consumer = record w.consumer { answer = Some (answer_for name n pick next w.consumer.machine.phase w.stream) };
 }
 
--- an XACK comes to the server, and its reply is on the way
+-- an XACK arrives at the server, and its reply is on the way
 abbrev pub acknowledges : {F : Type 0} → Name → World F → World F
 acknowledges name w = record w {
   stream = ack_comes w.stream (Some (name, w.consumer.machine.to_acknowledge));
   consumer = record w.consumer { answer = Some acknowledged };
 }
 
--- what an event makes of the world
+-- the world after an event
 abbrev pub happens : {F : Type 0} → Setting F → World F → Event F → World F
 happens s w (Send count) = record w { producer = sends count (numbered s.base s.records) w.producer }
 happens s w (Arrive executes) = record w {

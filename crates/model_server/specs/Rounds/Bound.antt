@@ -1,4 +1,4 @@
--- How many rounds a worker needs until all is drained.
+-- The number of rounds that a worker needs until the stream is drained.
 use Rattle.std.specs.Prelude.{ℕ, zero, suc, ◌+◌, ◌-◌, ◌*◌, ◌/◌, List, [], ◌∷◌, length}
 use Rattle.model_server.specs.Group.Worker.{Id, Machine, Phase, own, claiming, reading}
 use Rattle.model_server.specs.Group.Group.{Name, listed, pending_ids}
@@ -6,54 +6,54 @@ use Rattle.model_server.specs.Group.Group as group
 use Rattle.model_server.specs.Group.World.{World}
 use Rattle.model_server.specs.Rounds.Page.{how_many}
 
--- how many pages of n this many entries fill, the last of them perhaps not whole
+-- the number of pages of n entries for this number of entries; the last page may be partial
 abbrev pub pages : ℕ → ℕ → ℕ
 pages n so_many = (so_many + (n - 1)) / n
 
--- what is to be acknowledged takes a round, and what is to be committed then takes one more
+-- acknowledging takes a round, and committing what is done then takes one more
 abbrev pub held_for : (to_acknowledge to_commit : List Id) → ℕ
 held_for [] [] = 0
 held_for [] (id ∷ ids) = 1
 held_for (id ∷ ids) [] = 1
 held_for (id ∷ ids) (x ∷ xs) = 2
 
--- this many pages of its own take two rounds each, and one more finds that none is left
+-- this number of pages of its own take two rounds each, and one more returns none
 abbrev pub own_for : ℕ → ℕ
 own_for pages = 2 * pages + 1
 
--- this many pages that it claims take two rounds each, and none takes one
+-- this number of pages that it claims take two rounds each; if there are none, one round
 abbrev pub claims_for : ℕ → ℕ
 claims_for zero = 1
 claims_for (suc pages) = 2 * pages + 2
 
--- the reads before it claims again, at most
+-- the number of reads before it claims again, at most
 abbrev pub reads_before : ℕ → ℕ
 reads_before every = 1 + (every - 1)
 
--- this many pages of new entries take two rounds each; after `every` reads it claims, which takes one more
+-- this number of pages of new entries take two rounds each; after `every` reads it claims, which takes one more
 abbrev pub reads_for : (every pages : ℕ) → ℕ
 reads_for every zero = 0
 reads_for every (suc pages) = 2 * pages + 2 + pages / reads_before every
 
--- by its phase, with this many pages pending for it, pending for anyone, and still to come. If it claims or reads, it
--- may have to claim from the first once more
+-- by its phase, with these numbers of pages pending for it, pending for anyone, and undelivered. If it claims or reads,
+-- it may have to claim from the start once more
 abbrev pub from_phase : (every : ℕ) → Phase → (mine all fresh : ℕ) → ℕ
 from_phase every (own id) mine all fresh = own_for mine + claims_for all + reads_for every fresh
 from_phase every (claiming id) mine all fresh =
     claims_for all + reads_before every + claims_for all + reads_for every fresh
 from_phase every (reading rounds) mine all fresh = reads_before every + claims_for all + reads_for every fresh
 
--- the rounds that are enough if this many entries are pending for it, pending for anyone, and still to come
+-- enough rounds if these numbers of entries are pending for it, pending for anyone, and undelivered
 abbrev pub rounds_for : ℕ → Machine → (mine all fresh : ℕ) → ℕ
 rounds_for n m mine all fresh =
     held_for m.to_acknowledge m.to_commit + from_phase m.every m.phase (pages n mine) (pages n all) (pages n fresh)
 
 module _ {F : Type 0} where
-  -- how many entries of the log are pending for this consumer
+  -- the number of entries of the log that are pending for this consumer
   abbrev pub mine_in : Name → World F → ℕ
   mine_in name w = how_many (listed (group.own name w.pending)) w.seen
 
-  -- how many are pending for anyone
+  -- the number that are pending for anyone
   abbrev pub pending_in : World F → ℕ
   pending_in w = how_many (listed (pending_ids w.pending)) w.seen
 
@@ -61,7 +61,7 @@ module _ {F : Type 0} where
   abbrev pub enough_rounds : ℕ → Name → World F → ℕ
   enough_rounds n name w = rounds_for n (w.workers name) (mine_in name w) (pending_in w) (length w.fresh)
 
-  -- the rounds after which all that is pending for a worker that begins again was redelivered
+  -- the rounds after which all entries pending for a worker that starts over were redelivered
   abbrev pub again_rounds : ℕ → Name → World F → ℕ
   again_rounds n name w =
       held_for (w.workers name).to_acknowledge (w.workers name).to_commit + 2 * pages n (mine_in name w)

@@ -16,19 +16,19 @@ module _ {F : Type 0} where
   behind_id id (e ∷ es) =
       if listed (ids_of es) id then behind_id id es else (if bytes_eq e.0 id then es else e ∷ es)
 
-  -- the first n of those that are meant
+  -- the first n entries that are selected
   abbrev pub first_of : ℕ → (Id → Bool) → List (Entry F) → List (Entry F)
   first_of n meant [] = []
   first_of zero meant (e ∷ es) = []
   first_of (suc n) meant (e ∷ es) = if meant e.0 then e ∷ first_of n meant es else first_of (suc n) meant es
 
-  -- all entries from the next one on that is meant
+  -- all entries from the next selected one on
   abbrev pub beyond : ℕ → (Id → Bool) → List (Entry F) → List (Entry F)
   beyond n meant [] = []
   beyond zero meant (e ∷ es) = if meant e.0 then e ∷ es else beyond zero meant es
   beyond (suc n) meant (e ∷ es) = if meant e.0 then beyond n meant es else beyond (suc n) meant es
 
-  -- how many are meant
+  -- the number of selected entries
   abbrev pub how_many : (Id → Bool) → List (Entry F) → ℕ
   how_many meant [] = 0
   how_many meant (e ∷ es) = if meant e.0 then 1 + how_many meant es else how_many meant es
@@ -42,10 +42,10 @@ module _ {F : Type 0} where
   abbrev pub own_page : ℕ → Name → Id → List Pending → List (Entry F) → List (Entry F)
   own_page n name id pending seen = first_of n (listed (own name pending)) (behind_id id seen)
 
-  -- XAUTOCLAIM from an id on: the first n that are pending, for whomever
+  -- XAUTOCLAIM from an id on: the first n that are pending, for any consumer
   abbrev pub claim_page : ℕ → Id → List Pending → List (Entry F) → List (Entry F)
   claim_page n id pending seen = first_of n (listed (pending_ids pending)) (from_id id seen)
 
-  -- and where the next claim goes on: at the next one that is pending, or `0-0` at the end
+  -- the start of the next claim: the next entry that is pending, or `0-0` at the end
   abbrev pub next_claim : ℕ → Id → List Pending → List (Entry F) → Id
   next_claim n id pending seen = first_id (beyond n (listed (pending_ids pending)) (from_id id seen))

@@ -1,4 +1,4 @@
--- A round of a worker in which nothing fails: its events in the model.
+-- A round of a worker without failures: its events in the model.
 use Rattle.std.specs.Prelude.{ℕ, zero, suc, Bool, List, [], ◌∷◌, ◌++◌, map}
 use Rattle.model_server.specs.Group.Worker.{Id, Delivered, Verdict, done, Phase, own, claiming, reading}
 use Rattle.model_server.specs.Group.Group.{Name, listed, ids_of, given, whole, reread, claim_answer}
@@ -6,11 +6,11 @@ use Rattle.model_server.specs.Group.World.{World, Event, Read, Reread, Claim, Co
 use Rattle.model_server.specs.Rounds.Page.{own_page, claim_page, next_claim}
 
 module _ {F : Type 0} where
-  -- the handler says of each entry that it is done
+  -- the handler returns `done` for each entry
   abbrev pub all_done : List (Delivered F) → List Verdict
   all_done ds = map (λ d. done) ds
 
-  -- it commits, if something is to be committed and nothing to be acknowledged
+  -- it commits, if there is something to commit and nothing to acknowledge
   abbrev pub commit_of : Name → (to_acknowledge to_commit : List Id) → List (Event F)
   commit_of name [] [] = []
   commit_of name [] (id ∷ ids) = Commit name ∷ []
@@ -24,8 +24,8 @@ module _ {F : Type 0} where
   abbrev pub claim_pick : ℕ → Id → World F → Id → Bool
   claim_pick n id w = listed (ids_of (claim_page n id w.pending w.seen))
 
-  -- an XACK is sent if something is to be acknowledged, and arrives, and its reply comes; else the request of the
-  -- phase is sent, and the reply comes with the server's page
+  -- an XACK is sent if there are ids to acknowledge, and arrives, and its reply arrives. Otherwise the request of the
+  -- phase is sent, and the reply arrives with the server's page
   abbrev pub asks : ℕ → Name → World F → (to_acknowledge : List Id) → Phase → List (Event F)
   asks n name w (i ∷ ids) phase = Acknowledge name ∷ Ack_comes 0 ∷ Comes 0 [] ∷ []
   asks n name w [] (own id) =
@@ -41,7 +41,7 @@ module _ {F : Type 0} where
   abbrev pub commit_in : Name → World F → List (Event F)
   commit_in name w = commit_of name (w.workers name).to_acknowledge (w.workers name).to_commit
 
-  -- the events of what it asks, in this world
+  -- the events of its request, in this world
   abbrev pub asked_in : ℕ → Name → World F → List (Event F)
   asked_in n name w = asks n name w (w.workers name).to_acknowledge (w.workers name).phase
 
@@ -53,12 +53,12 @@ module _ {F : Type 0} where
   abbrev pub round : ℕ → Name → World F → World F
   round n name w = run (events_of_round n name w) w
 
-  -- `so_many` rounds of it, and nothing else between them
+  -- this number of its rounds, and nothing else between them
   abbrev pub rounds : (so_many : ℕ) → ℕ → Name → World F → World F
   rounds zero n name w = w
   rounds (suc so_many) n name w = rounds so_many n name (round n name w)
 
-  -- the events of `so_many` rounds
+  -- the events of this number of rounds
   abbrev pub events_of_rounds : (so_many : ℕ) → ℕ → Name → World F → List (Event F)
   events_of_rounds zero n name w = []
   events_of_rounds (suc so_many) n name w =
