@@ -1,14 +1,14 @@
 //! Prints one line for each vector of the stream layer: its name and the text that the layer
-//! computes, and behind it the stored text where the two differ.
+//! computes, followed by the stored text if the two differ.
 //!
 //! ```text
 //! v01 MAXLEN ~ 10 LIMIT 5
 //! ```
 //!
-//! Where no text differs it then answers the lines of standard input, one line for each: `ok k`,
+//! If no text differs, it then writes one line for each line of standard input: `ok k`,
 //! `no` or `unknown`.
 //!
-//! It ends with 0 where no text differs, with 1 where one does, and with 2 where memory ran out,
+//! Exits with 0 if no text differs, with 1 if one does, and with 2 if memory ran out,
 //! or standard input or output failed.
 #![tactic(auto)]
 
@@ -31,7 +31,7 @@ const DIFFERENT: u8 = 1;
 /// Memory ran out, or standard input or output failed.
 const FAILED: u8 = 2;
 
-/// Why the program could not do its work.
+/// Why the program failed.
 #[derive(Debug, Drop)]
 enum Failure {
     Memory,
@@ -61,7 +61,7 @@ fn main(rt: HostRuntime) -> ExitCode {
     exit_code(print_and_answer(&rt))
 }
 
-/// The status of a run: that all texts are the stored ones, that one differs, or why it failed.
+/// The status of a run: 0 if all texts equal the stored ones, 1 if one differs, and 2 after a failure.
 fn exit_code(outcome: Result<bool, Failure>) -> ExitCode
     ensures same { outcome ≡ Ok true → exit_status result ≡ 0 }
     ensures differs { outcome ≡ Ok false → exit_status result ≡ 1 }
@@ -74,7 +74,7 @@ fn exit_code(outcome: Result<bool, Failure>) -> ExitCode
     }
 }
 
-/// Prints the vectors, and then, where no text differs, answers the lines of standard input.
+/// Prints the vectors. If no text differs, it then writes a line for each line of standard input.
 fn print_and_answer<R: Print + Input + AllocGlobal>(rt: &R) -> Result<bool, Failure> {
     if !print_vectors(rt)? {
         return Ok(false);
@@ -83,7 +83,7 @@ fn print_and_answer<R: Print + Input + AllocGlobal>(rt: &R) -> Result<bool, Fail
     Ok(true)
 }
 
-/// Prints the line of each vector, and says whether all texts are the stored ones.
+/// Prints the line of each vector. Returns whether all texts equal the stored ones.
 fn print_vectors<R: Print + AllocGlobal>(rt: &R) -> Result<bool, Failure> {
     let rows = vector_rows(rt.alloc())?;
     Ok(print_rows(&rows, &mut io::writer(rt))?)

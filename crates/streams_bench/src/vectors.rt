@@ -1,4 +1,4 @@
-//! The vectors: texts that the layer has to compute, beside how it computes them.
+//! The vectors: texts that the layer has to compute, and how it computes them.
 ghost use Rattle.std.specs.Prelude.{◌≡◌, ◌+◌, IfOk, OnOk, vec_len};
 
 pub mod autoclaim;
@@ -17,7 +17,7 @@ use test_notation::vectors::config::push_config_rows;
 use test_notation::vectors::options::{add, claim, config, read, trim};
 use test_notation::vectors::{Row, push_options_rows, push_reply_rows};
 
-/// A row for each vector, in ascending order. It fails only where memory runs out.
+/// Returns a row for each vector, in ascending order. It fails only if memory runs out.
 pub fn vector_rows(alloc: Global) -> Result<Vec<Row>, AllocError>
     ensures { IfOk result (λ rows. vec_len rows ≡ 89) }
 {

@@ -54,7 +54,7 @@ pub fn group_vectors() -> [ReplyVector<'static>; 2]
     ]
 }
 
-/// Streams whose fields are not readable, v85 and v86.
+/// Streams whose fields cannot be read, v85 and v86.
 pub fn odd_stream_vectors() -> [ReplyVector<'static>; 2]
     ensures { map (λ v. v.0.now) result
         ≡ codes "v85" ∷ codes "v86" ∷ [] }

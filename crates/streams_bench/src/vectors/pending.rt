@@ -34,7 +34,7 @@ pub fn entry_vectors() -> [ReplyVector<'static>; 2]
     ]
 }
 
-/// A pending entry with the least number, v84.
+/// A pending entry with the smallest number, v84.
 pub fn odd_entry_vectors() -> [ReplyVector<'static>; 1]
     ensures { map (λ v. v.0.now) result
         ≡ codes "v84" ∷ [] }

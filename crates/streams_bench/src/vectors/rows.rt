@@ -56,7 +56,7 @@ pub fn read_vectors() -> [ReplyVector<'static>; 4]
     ]
 }
 
-/// Ranges with attributes, bytes that are no text, and odd shapes, v70 to v76.
+/// Ranges with attributes, bytes that are not text, and odd shapes, v70 to v76.
 pub fn odd_range_vectors() -> [ReplyVector<'static>; 7]
     ensures { map (λ v. v.0.now) result
         ≡ codes "v70" ∷ codes "v71" ∷ codes "v72" ∷ codes "v73" ∷ codes "v74"
