@@ -1,4 +1,4 @@
--- What both readings of a value may answer.
+-- The results that both readings of a value may return.
 use Rattle.std.proofs.Common.{◌≡◌, ◌≢◌, ℕ, List, ◌∙◌}
 use Rattle.std.specs.Prelude.{Option, Some, None, Result, Ok, Err, IfOk, IfErr, String, string_bytes}
 use Rattle.std.specs.declared.alloc.Global.{Global}
@@ -8,7 +8,7 @@ use Rattle.redis_resp.specs.Tree.{Tree}
 use Rattle.test_notation.specs.Answer.{MayAnswer, IsAnswer, compared}
 use Rattle.test_notation.specs.Refusal.{answer_form}
 
--- what a reading ensures of its answer
+-- the postcondition of a reading, as `MayAnswer`
 pub may_answer : {T M : Type 0} (meaning : T → M) (reading : Tree → Option M)
     (may_refuse : Tree → ParsingError → Type 0) (t : Tree) (answer : Result T ParsingError)
     → IfOk answer (λ r. reading t ≡ Some (meaning r))
@@ -17,7 +17,7 @@ pub may_answer : {T M : Type 0} (meaning : T → M) (reading : Tree → Option M
 may_answer meaning reading may_refuse t (Ok r) ok err told = ok
 may_answer meaning reading may_refuse t (Err e) ok err told = (told, err.0, err.1 told)
 
--- the line of what both readings answered
+-- the line of the results of both readings
 pub is_answer : {T M E : Type 0} (meaning : T → M) (reading : Tree → Option M)
     (may_refuse : Tree → ParsingError → Type 0) (form : T → List ℕ) (t : Tree) (owned lent : Result T ParsingError)
     (owned_form lent_form : List ℕ) (line : Result (String Global) E) → owned_form ≡ answer_form form owned

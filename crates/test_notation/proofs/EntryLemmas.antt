@@ -14,7 +14,7 @@ use denote.Ref.{Bor}
 abbrev by_name : Bor (List ℕ) → Bor (List ℕ) → Ordering
 by_name a b = slice_cmp nat_cmp a.now b.now
 
--- A field that is put among others stands there by its name and its value.
+-- A field that is inserted among others is there by its name and its value.
 pub pairs_of_insert : (fields : List (Bor (List ℕ) × Bor Value)) (name : Bor (List ℕ)) (value : Bor Value)
     → pairs_of (insert_entry by_name fields name value)
     ≡ insert_entry (slice_cmp nat_cmp) (pairs_of fields) name.now (tree value.now)

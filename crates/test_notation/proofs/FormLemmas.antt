@@ -3,7 +3,7 @@ use Rattle.std.proofs.Common.{◌≡◌, List, [], ◌∷◌, ◌++◌, map, ref
 use Rattle.std.proofs.lemmas.List.Folds.{flat_map-map}
 use Rattle.std.specs.List.{join_by}
 
--- Forms that are told by a part of each item are the forms of the parts.
+-- Forms that depend on a part of each item are the forms of the parts.
 pub join_by_map : {X Y A : Type 0} (f : Y → List A) (g : X → Y) (separator : List A) (xs : List X)
     → join_by (λ x. f (g x)) separator xs ≡ join_by f separator (map g xs)
 join_by_map f g separator [] = refl

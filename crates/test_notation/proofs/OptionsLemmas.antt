@@ -1,4 +1,4 @@
--- Lists that stand in a line, seen through what their items mean.
+-- Printed lists, seen through what their items mean.
 use Rattle.std.proofs.Common.{◌≡◌, ℕ, List, [], ◌∷◌, ◌++◌, map, refl, ap}
 use Rattle.std.proofs.lemmas.List.Folds.{flat_map-map}
 use Rattle.test_notation.specs.Form.{listed}

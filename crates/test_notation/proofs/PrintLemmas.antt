@@ -40,7 +40,7 @@ module _ {X : Type 0} (xs : List X) (i : ℕ) (x : X) (within : i < length xs) (
   pub all_more : (P : X → Type 0) → All P (take i xs) → P x → All P (take (i + 1) xs)
   all_more P h p = All-more P xs i x within h (subst P is p)
 
-  -- and back
+  -- the converse
   pub all_fewer : (P : X → Type 0) → All P (take (i + 1) xs) → All P (take i xs) × P x
   all_fewer P h =
       let parts : All P (take i xs ++ x ∷ []) = subst (All P) take_more h in

@@ -40,7 +40,7 @@ adds_more IsText old before new vectors i v within is so_far one =
       adds = one.adds ∙ ap (λ t. t ++ row ∷ []) so_far.adds ∙ append_assoc (map row_texts old) so_far.rows (row ∷ []);
     }
 
--- the row of an answer is the row of the notation of its value
+-- the row of a result is the row of the notation of its value
 pub answered_row : {T M E : Type 0} (meaning : T → M) (reading : Tree → Option M)
     (may_refuse : Tree → ParsingError → Type 0) (form : T → List ℕ) (t : Tree) (notation : Bor (List ℕ))
     (old new : List Row) (name stored : List ℕ) (result : Result (Unit {0}) E)

@@ -1,4 +1,4 @@
--- The calls of a play as what they name: texts by their bytes, names by their argument lists.
+-- The calls of a sequence as settings: texts by their bytes, names by their argument lists.
 use Rattle.std.specs.Prelude.{ℕ, true, List, [], ◌∷◌, string_bytes}
 use Rattle.std.specs.Global.{Vec}
 use Rattle.std.specs.List.{flat_map}
@@ -12,7 +12,7 @@ use Rattle.test_notation.specs.declared.call_sequences.AddCall.TheVariants as ad
 use Rattle.test_notation.specs.declared.call_sequences.ReadCall.{ReadCall}
 use Rattle.test_notation.specs.declared.call_sequences.ReadCall.TheVariants as read_call
 
--- what a call on the options of an addition names
+-- the setting that a call on the options of an addition makes
 abbrev pub add_call_of : AddCall → add.AddCall
 add_call_of add_call.Nomkstream = (add.nomkstream, true)
 add_call_of (add_call.Trim s) = (add.trim, strategy_of s)
@@ -25,7 +25,7 @@ add_call_of (add_call.Idmpauto producer) = (add.idempotency, automatic (string_b
 abbrev pub name_args : Vec RawBytes → List (List ℕ)
 name_args parts = flat_map (λ part. part.0.items ∷ []) parts.items
 
--- what a call on the options of a read names
+-- the setting that a call on the options of a read makes
 abbrev pub read_call_of : ReadCall → read.ReadCall
 read_call_of read_call.Noack = (read.noack, true)
 read_call_of (read_call.Block n) = (read.block, n)

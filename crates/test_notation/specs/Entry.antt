@@ -1,4 +1,4 @@
--- How an entry of a stream stands in a line.
+-- How an entry of a stream is printed in a line.
 use Rattle.std.specs.Prelude.{ℕ, List, [], ◌∷◌, ◌++◌, Option, Some, None, unwrap_or, codes, decimal, map, String}
 use Rattle.std.specs.Prelude.{string_bytes}
 use Rattle.std.specs.declared.alloc.Global.{Global}
@@ -14,7 +14,7 @@ use Rattle.stream_entries.specs.declared.stream_id.StreamId.{StreamId}
 use denote.Ref.{Bor}
 use Rattle.test_notation.specs.declared.replies.rows.stream_id.Field.{Field}
 
--- the text that a tree reads as, or a question mark
+-- the text of a tree, or a question mark if it is not a text
 abbrev pub tree_form : Tree → List ℕ
 tree_form t = unwrap_or (text_reading t) (codes "?")
 
@@ -22,7 +22,7 @@ tree_form t = unwrap_or (text_reading t) (codes "?")
 abbrev pub value_form : Value → List ℕ
 value_form v = tree_form (tree v)
 
--- a name, an equals sign, and what it stands for
+-- a name, an equals sign, and its value
 abbrev pub pair_form : List ℕ × Tree → List ℕ
 pair_form p = p.0 ++ codes "=" ++ tree_form p.1
 
@@ -30,7 +30,7 @@ pair_form p = p.0 ++ codes "=" ++ tree_form p.1
 abbrev pub pair_of : Field → List ℕ × Tree
 pair_of f = (f.name.now, tree f.value.now)
 
--- the same of entries of a map that lend both
+-- the same of a map's entries, which borrow both
 abbrev pub pairs_of : List (Bor (List ℕ) × Bor Value) → List (List ℕ × Tree)
 pairs_of fields = map (λ f. (f.0.now, tree f.1.now)) fields
 
@@ -38,7 +38,7 @@ pairs_of fields = map (λ f. (f.0.now, tree f.1.now)) fields
 abbrev pub field_form : Field → List ℕ
 field_form f = pair_form (pair_of f)
 
--- the fields put one after another into a list that is kept in the order of the names' bytes
+-- the fields inserted one after another into a list that is kept in the order of the names' bytes
 abbrev pub put_all : List (List ℕ × Tree) → List (String Global × Value) → List (List ℕ × Tree)
 put_all sorted [] = sorted
 put_all sorted (f ∷ fs) = put_all (insert_entry (slice_cmp nat_cmp) sorted (string_bytes f.0) (tree f.1)) fs
@@ -47,7 +47,7 @@ put_all sorted (f ∷ fs) = put_all (insert_entry (slice_cmp nat_cmp) sorted (st
 abbrev pub fields_form : List (String Global × Value) → List ℕ
 fields_form fields = join_by pair_form (codes ",") (put_all [] fields)
 
--- a number behind its mark, or nothing where it is not known
+-- a number after its mark, or nothing if it is not known
 abbrev pub marked_form : List ℕ → Option ℕ → List ℕ
 marked_form mark (Some n) = mark ++ decimal n
 marked_form mark None = []

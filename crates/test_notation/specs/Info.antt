@@ -1,4 +1,4 @@
--- How the replies of XINFO stand in a line.
+-- How the replies of XINFO are printed in a line.
 use Rattle.std.specs.Prelude.{ℕ, List, ◌++◌, codes, decimal, string_bytes}
 use Rattle.redis_streams.specs.declared.info.consumers.StreamInfoConsumersReply.{StreamInfoConsumersReply}
 use Rattle.redis_streams.specs.declared.info.groups.StreamInfoGroup.{StreamInfoGroup}
@@ -28,7 +28,7 @@ idempotency_form r =
     ++ codes " pids=" ++ decimal r.pids_tracked ++ codes " tracked=" ++ decimal r.iids_tracked
     ++ codes " added=" ++ decimal r.iids_added ++ codes " duplicates=" ++ decimal r.iids_duplicates
 
--- a consumer, what is pending for it, and for how long it has been idle
+-- a consumer, how many entries are pending for it, and for how long it has been idle
 abbrev pub consumer_form : StreamInfoConsumer → List ℕ
 consumer_form c = string_bytes c.name ++ codes " pending=" ++ decimal c.pending ++ codes " idle=" ++ decimal c.idle
 

@@ -1,4 +1,4 @@
--- How the reply of XINFO STREAM FULL stands in a line.
+-- How the reply of XINFO STREAM FULL is printed in a line.
 use Rattle.std.specs.Prelude.{ℕ, ℤ, List, ◌++◌, Option, Some, None, codes, decimal, String, string_bytes}
 use Rattle.std.specs.declared.alloc.Global.{Global}
 use Rattle.std.specs.Fmt.{signed_decimal}
@@ -37,25 +37,25 @@ abbrev pub time_form : Option ℤ → List ℕ
 time_form (Some z) = signed_decimal z
 time_form None = codes "none"
 
--- when a consumer was seen and active last, and how much is pending for it
+-- when a consumer was last seen and last active, and how many entries are pending for it
 unfoldable pub consumer_times_form : StreamInfoFullConsumer → List ℕ
 consumer_times_form c =
     string_bytes c.name ++ codes " seen=" ++ decimal c.seen_time ++ codes " active=" ++ time_form c.active_time
     ++ codes " count=" ++ decimal c.pending_count
 
--- a consumer, and what is pending for it in brackets
+-- a consumer, and its pending entries in brackets
 abbrev pub full_consumer_form : StreamInfoFullConsumer → List ℕ
 full_consumer_form c =
     consumer_times_form c ++ codes " pending=[" ++ join_by own_pending_form (codes "; ") c.pending.items ++ codes "]"
 
--- how far a group has come, and how much is pending in it
+-- the name of a group, its last delivered id, read count and lag, and its count of pending entries
 unfoldable pub group_numbers_form : StreamInfoFullGroup → List ℕ
 group_numbers_form g =
     string_bytes g.name ++ codes " last=" ++ string_bytes g.last_delivered_id ++ codes " read="
     ++ number_form g.entries_read
     ++ codes " lag=" ++ number_form g.lag ++ codes " count=" ++ decimal g.pending_count
 
--- a group, and in brackets what is pending in it, and its consumers
+-- a group, and in brackets its pending entries and its consumers
 abbrev pub full_group_form : StreamInfoFullGroup → List ℕ
 full_group_form g =
     group_numbers_form g ++ codes " pending=[" ++ join_by full_pending_form (codes "; ") g.pending.items

@@ -7,7 +7,7 @@ use Rattle.test_notation.specs.declared.vectors.Row.{Row}
 abbrev pub IsSame : Row → Type 0
 IsSame row = string_bytes row.text ≡ string_bytes row.stored
 
--- what a line says behind its text
+-- the part of a line after its text
 abbrev pub difference : Row → List ℕ
 difference row = if bytes_eq (string_bytes row.text) (string_bytes row.stored) then []
     else codes " differs from " ++ string_bytes row.stored

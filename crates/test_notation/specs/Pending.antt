@@ -1,4 +1,4 @@
--- How the replies on pending entries stand in a line.
+-- How the replies on pending entries are printed in a line.
 use Rattle.std.specs.Prelude.{ℕ, List, ◌++◌, codes, decimal, string_bytes}
 use Rattle.std.specs.List.{join_by}
 use Rattle.redis_streams.specs.declared.info.consumer.StreamInfoConsumer.{StreamInfoConsumer}
@@ -9,11 +9,11 @@ use Rattle.redis_streams.specs.declared.pending.summary.StreamPendingReply.TheVa
 use Rattle.test_notation.specs.declared.replies.pending.Share.{Share}
 use Rattle.test_notation.specs.Form.{listed}
 
--- a consumer's name and how much is pending for it
+-- a consumer's name and how many entries are pending for it
 abbrev pub pending_of_form : StreamInfoConsumer → List ℕ
 pending_of_form c = string_bytes c.name ++ codes "=" ++ decimal c.pending
 
--- the consumer whose share it is
+-- the consumer of a share
 abbrev pub consumer_of : Share → StreamInfoConsumer
 consumer_of s = s.0.now
 
@@ -21,7 +21,7 @@ consumer_of s = s.0.now
 abbrev pub share_form : Share → List ℕ
 share_form s = pending_of_form (consumer_of s)
 
--- how much is pending, from where to where, and with whom
+-- how many entries are pending, the first and last id, and the consumers
 abbrev pub pending_form : StreamPendingReply → List ℕ
 pending_form Empty = codes "empty"
 pending_form (Data d) =

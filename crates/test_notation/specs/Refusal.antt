@@ -1,4 +1,4 @@
--- How a refusal stands in a line.
+-- How a refusal is printed in a line.
 use Rattle.std.specs.Prelude.{ℕ, List, ◌++◌, Result, Ok, Err, codes, decimal}
 use Rattle.redis_resp.specs.declared.value.error.ParsingError.{ParsingError}
 use Rattle.redis_resp.specs.declared.value.error.ParsingError.TheVariants.{NotText, NotNumber, NotList, NotPairs}
@@ -8,7 +8,7 @@ use Rattle.redis_resp.specs.declared.value.error.ParsingError.TheVariants.{Pendi
 use Rattle.redis_resp.specs.declared.value.error.ParsingError.TheVariants.{NotPendingRow, UnknownXDelEx, UnknownXAckDel}
 use Rattle.redis_resp.specs.declared.value.error.ParsingError.TheVariants.{NotXDelEx, NotXAckDel, NotBytes, Memory}
 
--- the place of a cause in the order of their declaration, from 1
+-- the position of a cause in the order of their declaration, from 1
 abbrev pub refusal_number : ParsingError → ℕ
 refusal_number NotText = 1
 refusal_number NotNumber = 2

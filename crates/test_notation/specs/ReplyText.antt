@@ -1,11 +1,11 @@
--- What stands in the row of a reply.
+-- The text in the row of a reply.
 use Rattle.std.specs.Prelude.{◌≡◌, ℕ, List, Option, codes}
 use Rattle.redis_resp.specs.declared.value.error.ParsingError.{ParsingError}
 use Rattle.redis_resp.specs.Tree.{Tree}
 use Rattle.test_notation.specs.Answer.{IsAnswer}
 use denote.Ref.{Bor}
 
--- the answer of both readings on a value, or that the notation spells none; which value a notation spells is not said
+-- the result of both readings of a value, or that the notation is no value; which value it means is not specified
 pub data IsReplyText {T M : Type 0} (meaning : T → M) (reading : Tree → Option M)
     (may_refuse : Tree → ParsingError → Type 0) (form : T → List ℕ) (notation : Bor (List ℕ))
     (text : List ℕ) : Type 0 where

@@ -1,4 +1,4 @@
--- How the replies that hold entries stand in a line.
+-- How the replies that hold entries are printed in a line.
 use Rattle.std.specs.Prelude.{ℕ, List, ◌++◌, codes, string_bytes, if◌then◌else◌}
 use Rattle.std.specs.List.{join_by}
 use Rattle.stream_entries.specs.declared.autoclaim.StreamAutoClaimReply.{StreamAutoClaimReply}
@@ -25,7 +25,7 @@ key_form k = string_bytes k.key ++ codes "[" ++ join_by entry_form (codes " ") k
 abbrev pub read_form : StreamReadReply → List ℕ
 read_form r = listed key_form (codes " ") r.keys.items
 
--- the next id, the entries, the deleted ids, and whether there were others
+-- the next id, the entries, the deleted ids, and whether there were invalid entries
 abbrev pub autoclaim_form : StreamAutoClaimReply → List ℕ
 autoclaim_form r =
     codes "next=" ++ string_bytes r.next_stream_id ++ codes " claimed=["

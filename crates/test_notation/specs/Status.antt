@@ -1,4 +1,4 @@
--- How status codes stand in a line.
+-- How status codes are printed in a line.
 use Rattle.std.specs.Prelude.{ℕ, List, codes}
 use Rattle.redis_streams.specs.declared.status.XAckDelStatusCode.{XAckDelStatusCode}
 use Rattle.redis_streams.specs.declared.status.XAckDelStatusCode.TheVariants as acknowledgement

@@ -12,13 +12,13 @@ row_texts row = (string_bytes row.name, string_bytes row.text, string_bytes row.
 abbrev pub options_texts : {T : Type 0} → (T → List ℕ) → Bor (List ℕ) × T × Bor (List ℕ) → List ℕ × List ℕ × List ℕ
 options_texts form vector = (vector.0.now, form vector.1, vector.2.now)
 
--- one row more: its name, a text that is as said, and the stored text
+-- one row more: its name, a text of which `IsText` holds, and the stored text
 pub record AddsRow (IsText : List ℕ → Type 0) (old new : List Row) (name stored : List ℕ) : Type 0 where
   pub text : List ℕ
   pub is_text : IsText text
   pub adds : map row_texts new ≡ map row_texts old ++ (name, text, stored) ∷ []
 
--- the row of a vector: its name, a text that is as said of what stands between, and the stored text
+-- the row of a vector: its name, a text of which `IsText` holds for the vector's value, and the stored text
 abbrev pub IsRow : {T : Type 0} → (T → List ℕ → Type 0) → Bor (List ℕ) × T × Bor (List ℕ) → List ℕ × List ℕ × List ℕ
     → Type 0
 IsRow IsText vector row = (row.0 ≡ vector.0.now) × IsText vector.1 row.1 × (row.2 ≡ vector.2.now)

@@ -1,4 +1,4 @@
-//! What a value is answered with by both readings of a type.
+//! The printed results of decoding a value by both readings of a type.
 ghost use Rattle.std.specs.Prelude.{◌≡◌, ◌≢◌, IfOk, IfErr, string_bytes};
 ghost use Rattle.redis_resp.specs.Value.{tree};
 ghost use Rattle.test_notation.specs.Answer.{IsAnswer, compared};
@@ -8,8 +8,8 @@ use crate::form::PrintedForm;
 use redis_resp::{FromRedisValue, ParsingError, Value, from_redis_value, from_redis_value_ref};
 use std::alloc::{AllocError, Global};
 
-/// The printed form of what both readings answer of a value, owned and borrowed, or both forms where
-/// they differ. It fails only where memory runs out.
+/// Returns the printed form of the result of both readings of a value, owned and borrowed. Where they
+/// differ, it returns both forms. It fails only out of memory.
 pub fn both_answers<T: FromRedisValue + PrintedForm>(
     alloc: Global,
     value: Value,
@@ -22,7 +22,7 @@ pub fn both_answers<T: FromRedisValue + PrintedForm>(
     compared_forms(alloc, owned, &lent)
 }
 
-/// The printed form of a record or a refusal. That memory ran out is no answer, and is passed on.
+/// Returns the printed form of a record or a refusal. Passes on the error that memory ran out.
 fn printed_answer<T: PrintedForm + Drop>(
     alloc: Global,
     answer: Result<T, ParsingError>,
@@ -37,7 +37,7 @@ fn printed_answer<T: PrintedForm + Drop>(
     }
 }
 
-/// One form where both are the same, else both, with which is which.
+/// Returns one form if both are the same, else both forms with their labels.
 fn compared_forms(alloc: Global, owned: String, lent: &str) -> Result<String, AllocError>
     ensures { IfOk result (λ line. string_bytes line ≡ compared (string_bytes owned) lent.now) }
 {

@@ -1,4 +1,4 @@
-//! Options that a list of calls makes.
+//! Options that a sequence of builder calls makes.
 ghost use Rattle.std.specs.Prelude.{◌≡◌, map, IfOk};
 ghost use Rattle.stream_options.specs.Add.{default_add};
 ghost use Rattle.stream_options.specs.AddCalls.{final_add, after_add};
@@ -33,7 +33,7 @@ pub enum ReadCall {
     Group(Vec<RawBytes>, Vec<RawBytes>),
 }
 
-/// The options that these calls make of the default, in order. It takes no memory.
+/// Applies these calls to the default options, in order. It takes no memory.
 #[tactic(auto, using(crate::proofs::PlayLemmas::add_final_push))]
 pub fn play_add(calls: Vec<AddCall>) -> StreamAddOptions
     ensures { result ≡ final_add default_add (map add_call_of calls.items) }
@@ -57,8 +57,8 @@ fn play_add_call(options: StreamAddOptions, call: AddCall) -> StreamAddOptions
     }
 }
 
-/// The options that these calls make of the default, in order. It fails only where memory ran
-/// out, and then drops what was made.
+/// Applies these calls to the default options, in order. It fails only out of memory, and then
+/// drops what was made.
 #[tactic(auto, using(crate::proofs::PlayLemmas::read_final_push))]
 pub fn play_read(alloc: Global, calls: Vec<ReadCall>) -> Result<StreamReadOptions, AllocError>
     ensures { IfOk result (λ options. options

@@ -1,4 +1,4 @@
-//! Printed forms: how a value stands in a line of text.
+//! Printed forms: how a value is printed in a line of text.
 ghost use Rattle.std.specs.Prelude.{◌≡◌, ◌++◌, ℕ, List, IfOk, OnOk, codes, decimal, string_bytes, if◌then◌else◌};
 ghost use Rattle.test_notation.specs.Form.{number_form};
 
@@ -14,11 +14,11 @@ pub trait PrintedForm {
 
     /// Appends the printed form of this value to the line.
     ///
-    /// It fails only out of memory, and a beginning of the form may then stand in the line.
+    /// It fails only out of memory; a prefix of the form may then be in the line.
     fn print(&self, alloc: Global, line: &mut String) -> Result<(), AllocError>
         ensures { OnOk result (string_bytes line.new ≡ string_bytes line.old ++ form self.now) };
 
-    /// The printed form of this value. It fails only out of memory.
+    /// Returns the printed form of this value. It fails only out of memory.
     fn printed(&self, alloc: Global) -> Result<String, AllocError>
         ensures { IfOk result (λ line. string_bytes line ≡ form self.now) }
     {
@@ -28,7 +28,7 @@ pub trait PrintedForm {
     }
 }
 
-/// A text stands as it is.
+/// A text is printed as it is.
 impl PrintedForm for String {
     ghost form = { string_bytes };
 
@@ -37,7 +37,7 @@ impl PrintedForm for String {
     }
 }
 
-/// A number stands in decimal.
+/// A number is printed in decimal.
 impl PrintedForm for usize {
     ghost form = { decimal };
 
@@ -46,7 +46,7 @@ impl PrintedForm for usize {
     }
 }
 
-/// A truth value stands as `true` or `false`.
+/// A boolean is printed as `true` or `false`.
 impl PrintedForm for bool {
     ghost form = { λ truth. if truth then codes "true" else codes "false" };
 
@@ -55,7 +55,7 @@ impl PrintedForm for bool {
     }
 }
 
-/// A number stands in decimal, and one that is not known as `none`.
+/// A number is printed in decimal, and `None` as `none`.
 impl PrintedForm for Option<usize> {
     ghost form = { number_form };
 

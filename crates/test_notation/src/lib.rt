@@ -1,8 +1,8 @@
-//! Redis values, stream options and replies as lines of text: a notation that values are read from
-//! (`notation`), the printed forms of options and replies (`form`, `options`, `replies`), the
-//! printed answer of both readings (`answer`), options that a list of calls makes (`call_sequences`),
-//! and vectors with their rows (`vectors`) and the lines of these (`row_lines`), for tests and for
-//! programs that compare answers. `laws` says what `==` of its errors tells.
+//! Redis values, stream options and replies as lines of text, for tests and for programs that compare
+//! results: a notation for values (`notation`), the printed forms of options and replies (`form`,
+//! `options`, `replies`), the printed result of both readings (`answer`), options that a sequence of
+//! calls makes (`call_sequences`), vectors with their rows (`vectors`) and the lines of these rows
+//! (`row_lines`). `laws` states what `==` of its errors means.
 //!
 //! ```text
 //! let reply = read_value(alloc, "Array[Array[1-0, Array[f, v]]]")?;

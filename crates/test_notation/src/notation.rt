@@ -10,8 +10,8 @@
 //!
 //! A bare word has no blank, no control character and none of `[ ] ( ) , : ; " \`, and is none of
 //! the words above: such a word is quoted where it is meant as a bulk string. Between quotes `\"`,
-//! `\\`, `\n`, `\t` and `\xNN`, the byte of two hexadecimal digits, stand for one byte each. Blanks
-//! (spaces and tabs) may stand before each part. `Attr(v; k: x)` is the value `v` with the attribute
+//! `\\`, `\n`, `\t` and `\xNN`, the byte of two hexadecimal digits, are one byte each. Blanks
+//! (spaces and tabs) may precede each part. `Attr(v; k: x)` is the value `v` with the attribute
 //! `k: x` around it.
 ghost use Rattle.std.specs.Prelude.{◌<◌, IfOk, length};
 
@@ -26,7 +26,7 @@ use scan::skip_blanks;
 use std::alloc::Global;
 use value::value_in;
 
-/// The value that the whole of `text` writes.
+/// Parses the whole of `text` as a value.
 pub fn read_value(alloc: Global, text: &str) -> Result<Value, NotationError>
     ensures { IfOk result (λ _. 0 < length text.now) }
 {

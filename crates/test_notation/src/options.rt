@@ -1,5 +1,5 @@
 //! The options of the stream commands in their printed form: the arguments that they write, with a
-//! space between each two, `?` for an argument that is no text, and `-` where they write none.
+//! space between each two. An argument that is not UTF-8 is `?`; no arguments are `-`.
 ghost use Rattle.std.specs.Prelude.{◌≡◌, ◌++◌, OnOk, string_bytes};
 ghost use Rattle.stream_options.specs.Add.{add_sentence};
 ghost use Rattle.stream_options.specs.AutoClaim.{autoclaim_sentence};
@@ -20,7 +20,7 @@ use stream_options::{
     StreamMaxlen, StreamNackOptions, StreamReadOptions, StreamTrimOptions,
 };
 
-/// An argument as it is, or `?` where it is no text.
+/// An argument as it is, or `?` if it is not UTF-8.
 impl PrintedForm for Vec<u8> {
     ghost form = { λ arg. argument_form arg.items };
 
@@ -55,7 +55,7 @@ impl PrintedForm for StreamTrimOptions {
     }
 }
 
-/// The arguments of the length of `XTRIM` and `XADD`.
+/// The arguments of a `MAXLEN` option of `XTRIM` and `XADD`.
 impl PrintedForm for StreamMaxlen {
     ghost form = { λ options. sentence_form (maxlen_sentence (maxlen_of options)) };
 

@@ -10,7 +10,7 @@ use std::io::{self, Write};
 /// Why rows were not printed.
 #[derive(Clone, Copy, Debug, PartialEq, Eq)]
 pub enum PrintError {
-    /// The writer failed, or took no byte of what it was handed.
+    /// The writer failed, or wrote 0 bytes.
     Write,
 }
 
@@ -23,8 +23,8 @@ impl From<io::Error> for PrintError {
 /// Writes a line for each row: its name, a space and the text; where the text differs from the
 /// stored one, ` differs from ` and the stored text as well.
 ///
-/// The answer is true exactly where no text differs. It takes no memory. Where the writer fails,
-/// the answer is `Write`, and how much was written by then is not said.
+/// Returns `true` exactly if no text differs. It takes no memory. If the writer fails, it returns
+/// `Write`; how much was written by then is not known.
 pub fn print_rows<W: Write>(rows: &[Row], output: &mut W) -> Result<bool, PrintError>
     ensures lines { OnOk result (Appends (W.contents output.old) (W.contents output.new)
         (flat_map line_of rows.now)) }
@@ -37,7 +37,7 @@ pub fn print_rows<W: Write>(rows: &[Row], output: &mut W) -> Result<bool, PrintE
     Ok(all_same)
 }
 
-/// Writes the line of one row, and says whether its texts are the same.
+/// Writes the line of one row. Returns whether its texts are the same.
 fn print_row<W: Write>(row: &Row, output: &mut W) -> Result<bool, PrintError>
     ensures line { OnOk result (Appends (W.contents output.old) (W.contents output.new)
         (line_of row.now)) }

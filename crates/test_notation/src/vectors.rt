@@ -1,5 +1,5 @@
-//! Vectors, and the rows of texts to compare that they make. A vector is a name, what a text is made
-//! of, and the text that it has to be.
+//! Vectors, and the rows of texts to compare that they make. A vector is a name, the value to print,
+//! and the text that is expected.
 ghost use Rattle.std.specs.Prelude.{◌≡◌, ◌+◌, ◌∷◌, ◌++◌, [], OnOk, length, map, string_bytes, vec_len};
 ghost use Rattle.redis_resp.specs.Value.{tree};
 ghost use Rattle.test_notation.specs.Answer.{IsAnswer};
@@ -15,7 +15,7 @@ use crate::notation::{NotationError, read_value};
 use redis_resp::{FromRedisValue, Value};
 use std::alloc::{AllocError, Global};
 
-/// A text that was computed, beside the text that it has to be.
+/// A text that was computed, beside the expected text.
 #[derive(Debug, Drop)]
 pub struct Row {
     pub name: String,
@@ -78,7 +78,7 @@ pub fn push_options_rows<T: PrintedForm>(
     Ok(())
 }
 
-/// Adds the row of a reply: the printed answer of both calls on the value.
+/// Adds the row of a reply: the printed result of both readings of the value.
 pub fn push_answer_row<T: FromRedisValue + PrintedForm>(
     alloc: Global,
     rows: &mut Vec<Row>,
@@ -94,7 +94,7 @@ pub fn push_answer_row<T: FromRedisValue + PrintedForm>(
     push_text_row(alloc, rows, name, both_answers::<T>(alloc, value)?, stored)
 }
 
-/// Adds the row of a reply whose value is in the notation; `no value` where it is none.
+/// Adds the row of a reply whose value is in the notation; `no value` if it does not parse.
 fn push_reply_row<T: FromRedisValue + PrintedForm>(
     alloc: Global,
     rows: &mut Vec<Row>,

@@ -1,20 +1,20 @@
-//! Why a text is no value.
+//! Why a text is not a value.
 use std::alloc::{AllocError, AllocFailed};
 use thiserror::Error;
 
-/// Why a text was not read as a value.
+/// Why a text was not parsed as a value.
 #[derive(Debug, Drop, PartialEq, Eq, Error)]
 pub enum NotationError {
-    /// Another byte, or none, stands where this one has to.
+    /// This character was expected, and another one or the end of the text was found.
     #[error("no `{0}` where one has to stand")]
     NoMark(char),
-    /// Neither a bare word nor a quote stands where a value or a text has to.
+    /// A bare or quoted word was expected, and neither was found.
     #[error("no word where one has to stand")]
     NoWord,
-    /// What stands behind `Int`, or in `Bytes(..)`, is no number of that range.
+    /// The word after `Int`, or in `Bytes(..)`, is not a number of that range.
     #[error("not a number")]
     NotNumber,
-    /// What stands in `Boolean(..)` is neither `true` nor `false`.
+    /// The word in `Boolean(..)` is neither `true` nor `false`.
     #[error("neither true nor false")]
     NotBoolean,
     /// The bytes of a text are not UTF-8.
@@ -23,10 +23,10 @@ pub enum NotationError {
     /// A quote has no end.
     #[error("an unclosed quote")]
     Unclosed,
-    /// A backslash in a quote stands before none of `"`, `\`, `n`, `t` and `xNN`.
+    /// A backslash in a quote is followed by none of `"`, `\`, `n`, `t` and `xNN`.
     #[error("an unknown escape")]
     UnknownEscape,
-    /// More text stands behind the value.
+    /// The value is followed by more text.
     #[error("text behind the value")]
     TextBehindValue,
     /// Memory ran out.

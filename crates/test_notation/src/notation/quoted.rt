@@ -1,11 +1,11 @@
-//! Bulk strings and texts at the head of a text.
+//! Bulk strings and texts at the start of the input.
 ghost use Rattle.std.specs.Prelude.{◌<◌, ◌≤◌, IfOk, length};
 
 use crate::notation::error::NotationError;
 use crate::notation::scan::{expect_mark, skip_blanks, word_in};
 use std::alloc::Global;
 
-/// The bytes of a bare or quoted word, and the text behind it.
+/// Parses a bare or quoted word, and returns its bytes and the rest of the text.
 pub fn bulk_in(alloc: Global, text: &[u8]) -> Result<(Vec<u8>, &[u8]), NotationError>
     ensures { IfOk result (λ r. length r.1.now < length text.now) }
 {
@@ -18,7 +18,7 @@ pub fn bulk_in(alloc: Global, text: &[u8]) -> Result<(Vec<u8>, &[u8]), NotationE
     }
 }
 
-/// A text, and what stands behind it. Nothing before a `)`, `,` or `;` is the empty text.
+/// Parses a text, and returns it and the rest. Nothing before a `)`, `,` or `;` is the empty text.
 pub fn text_in(alloc: Global, text: &[u8]) -> Result<(String, &[u8]), NotationError>
     ensures { IfOk result (λ r. length r.1.now ≤ length text.now) }
 {
@@ -57,7 +57,7 @@ fn quoted_in(alloc: Global, text: &[u8]) -> Result<(Vec<u8>, &[u8]), NotationErr
     Err(NotationError::Unclosed)
 }
 
-/// The byte that an escape stands for, and the text behind the escape.
+/// Returns the byte that an escape denotes, and the text after the escape.
 fn escaped_in(text: &[u8]) -> Result<(u8, &[u8]), NotationError>
     ensures { IfOk result (λ r. length r.1.now < length text.now) }
 {

@@ -1,4 +1,4 @@
-//! Blanks, marks, words and numbers at the head of a text.
+//! Blanks, marks, words and numbers at the start of a text.
 ghost use Rattle.std.specs.Prelude.{◌≡◌, ◌<◌, ◌≤◌, IfOk, IfSome, length, option_and_then};
 ghost use Rattle.redis_resp.specs.Number.{signed_of, signed_within};
 
@@ -12,7 +12,7 @@ fn is_bare(byte: u8) -> bool {
     byte > 32 && byte != 127 && !b"[](),:;\"\\".contains(&byte)
 }
 
-/// The text behind the blanks that it begins with.
+/// Returns the text after its leading blanks.
 pub fn skip_blanks(text: &[u8]) -> &[u8]
     ensures { length result.now ≤ length text.now }
 {
@@ -20,7 +20,7 @@ pub fn skip_blanks(text: &[u8]) -> &[u8]
     &text[blanks..]
 }
 
-/// The text behind a mark, where one stands at its head.
+/// Returns the text after the mark if it begins with the mark, else `None`.
 pub fn strip_mark(text: &[u8], mark: char) -> Option<&[u8]>
     ensures { IfSome result (λ rest. length rest.now < length text.now) }
 {
@@ -30,14 +30,14 @@ pub fn strip_mark(text: &[u8], mark: char) -> Option<&[u8]>
     }
 }
 
-/// The text behind a mark that has to stand at its head.
+/// Returns the text after the mark that it has to begin with.
 pub fn expect_mark(text: &[u8], mark: char) -> Result<&[u8], NotationError>
     ensures { IfOk result (λ rest. length rest.now < length text.now) }
 {
     strip_mark(text, mark).ok_or(NotationError::NoMark(mark))
 }
 
-/// The bare word at the head of a text, and the text behind it.
+/// Returns the bare word at the start of a text, and the rest of the text.
 pub fn word_in(text: &[u8]) -> Result<(&[u8], &[u8]), NotationError>
     ensures { IfOk result (λ r. length r.1.now < length text.now) }
 {
@@ -52,7 +52,7 @@ pub fn word_in(text: &[u8]) -> Result<(&[u8], &[u8]), NotationError>
     }
 }
 
-/// The number that a word writes in decimal, where it fits an `i64`.
+/// Parses a word as a decimal number. Returns `None` if it does not fit an `i64`.
 pub fn number_in(word: &[u8]) -> Option<i64>
     ensures { result ≡ option_and_then (signed_within 63) (signed_of word.now) }
 {

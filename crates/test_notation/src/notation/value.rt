@@ -1,4 +1,4 @@
-//! Values at the head of a text.
+//! Values at the start of a text.
 ghost use Rattle.std.specs.Prelude.{◌<◌, ◌≤◌, IfOk, length};
 
 use crate::notation::error::NotationError;
@@ -7,7 +7,7 @@ use crate::notation::scan::{expect_mark, number_in, skip_blanks, strip_mark, wor
 use redis_resp::Value;
 use std::alloc::Global;
 
-/// The value at the head of a text, and the text behind it.
+/// Parses the value at the start of a text, and returns it and the rest of the text.
 #[cycle(value)]
 pub fn value_in(alloc: Global, text: &[u8]) -> Result<(Value, &[u8]), NotationError>
     ensures { IfOk result (λ r. length r.1.now < length text.now) }
@@ -64,7 +64,7 @@ fn values_in(alloc: Global, text: &[u8]) -> Result<(Vec<Value>, &[u8]), Notation
     }
 }
 
-/// `value: value, ..` and the mark that ends it
+/// `value: value, ..` and the mark that ends the list
 #[cycle(value)]
 fn pairs_in(
     alloc: Global,
@@ -180,7 +180,7 @@ fn bytes_in(alloc: Global, text: &[u8]) -> Result<(Value, &[u8]), NotationError>
     }
 }
 
-/// The byte whose number a word writes in decimal.
+/// Parses a word as a decimal number that fits a byte.
 fn byte_in(word: &[u8]) -> Option<u8> {
     u8::try_from(number_in(word)?).ok()
 }

@@ -1,4 +1,4 @@
-//! What XINFO STREAM FULL tells of a stream.
+//! The reply of XINFO STREAM FULL.
 ghost use Rattle.std.specs.Prelude.{◌≡◌, ◌++◌, OnOk, string_bytes};
 ghost use Rattle.test_notation.specs.InfoFull.{own_field_form, full_entry_form, full_pending_form, own_pending_form, consumer_times_form, full_consumer_form, group_numbers_form, full_group_form, full_numbers_form, full_form, time_form};
 
@@ -32,7 +32,7 @@ impl PrintedForm for StreamInfoFullEntry {
     }
 }
 
-/// The id, the consumer, the time and the times, with a space between each two.
+/// The id, the consumer, the delivery time and the delivery count, with a space between each two.
 impl PrintedForm for StreamInfoFullPending {
     ghost form = { full_pending_form };
 
@@ -45,7 +45,7 @@ impl PrintedForm for StreamInfoFullPending {
     }
 }
 
-/// The id, the time and the times, with a space between each two.
+/// The id, the delivery time and the delivery count, with a space between each two.
 impl PrintedForm for StreamInfoConsumerPending {
     ghost form = { own_pending_form };
 
@@ -58,7 +58,7 @@ impl PrintedForm for StreamInfoConsumerPending {
     }
 }
 
-/// A time stands in decimal with its sign, and one that is not known as `none`.
+/// A time is printed in decimal with its sign, and `None` as `none`.
 impl PrintedForm for Option<i64> {
     ghost form = { time_form };
 
@@ -70,7 +70,7 @@ impl PrintedForm for Option<i64> {
     }
 }
 
-/// Appends when the consumer was seen and active last, and how much is pending for it.
+/// Appends when the consumer was last seen and last active, and how many entries are pending for it.
 #[tactic(auto, unfolding(crate::specs::InfoFull::consumer_times_form))]
 fn print_times(
     alloc: Global,
@@ -89,7 +89,7 @@ fn print_times(
     write!(line, " count={}", consumer.pending_count)
 }
 
-/// The consumer and its numbers, and what is pending for it in brackets.
+/// The consumer and its numbers, and its pending entries in brackets.
 impl PrintedForm for StreamInfoFullConsumer {
     ghost form = { full_consumer_form };
 
@@ -101,7 +101,7 @@ impl PrintedForm for StreamInfoFullConsumer {
     }
 }
 
-/// Appends how far the group has come, and how much is pending in it.
+/// Appends the name of the group, its last delivered id, read count and lag, and its count of pending entries.
 #[tactic(auto, unfolding(crate::specs::InfoFull::group_numbers_form))]
 fn print_numbers(
     alloc: Global,
@@ -122,7 +122,7 @@ fn print_numbers(
     write!(line, " count={}", group.pending_count)
 }
 
-/// The group and its numbers, and in brackets what is pending in it, and its consumers.
+/// The group and its numbers, and in brackets its pending entries and its consumers.
 impl PrintedForm for StreamInfoFullGroup {
     ghost form = { full_group_form };
 

@@ -1,4 +1,4 @@
-//! What XINFO tells of a stream, its groups and their consumers.
+//! The replies of XINFO on a stream, its groups and their consumers.
 ghost use Rattle.std.specs.Prelude.{◌≡◌, ◌++◌, OnOk, string_bytes};
 ghost use Rattle.test_notation.specs.Info.{stream_form, idempotency_form, consumer_form, consumers_form, group_form, groups_form, progress_form, ends_form};
 
@@ -46,7 +46,7 @@ fn print_ends(
     stream.last_entry.print(alloc, line)
 }
 
-/// What is told of every stream, and behind it the numbers on idempotent producers.
+/// The form of `StreamInfoStreamReply`, and after it the numbers on idempotent producers.
 impl PrintedForm for StreamInfoStreamReplyWithIdempotency {
     ghost form = { idempotency_form };
 
@@ -65,7 +65,7 @@ impl PrintedForm for StreamInfoStreamReplyWithIdempotency {
     }
 }
 
-/// The name, what is pending, and for how long the consumer has been idle.
+/// The name, how many entries are pending, and for how long the consumer has been idle.
 impl PrintedForm for StreamInfoConsumer {
     ghost form = { consumer_form };
 
@@ -107,7 +107,7 @@ impl PrintedForm for StreamInfoGroup {
     }
 }
 
-/// Appends how far the group has come, and how far it has to go.
+/// Appends how many entries the group has read, and how many it has still to read.
 fn print_progress(
     alloc: Global,
     group: &StreamInfoGroup,

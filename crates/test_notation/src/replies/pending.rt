@@ -9,11 +9,11 @@ use redis_streams::{
 };
 use std::alloc::{AllocError, Global};
 
-/// A consumer with what is pending for it.
+/// A consumer with the count of its pending entries.
 #[derive(Drop)]
 struct Share<'a>(&'a StreamInfoConsumer);
 
-/// The name, an equals sign, and how much is pending.
+/// The name, an equals sign, and how many entries are pending.
 impl PrintedForm for Share<'_> {
     ghost form = { share_form };
 
@@ -22,7 +22,7 @@ impl PrintedForm for Share<'_> {
     }
 }
 
-/// The consumers with what is pending for them.
+/// Returns the consumers with the counts of their pending entries.
 fn shares_of<'a>(
     alloc: Global,
     consumers: &'a [StreamInfoConsumer],
@@ -36,7 +36,7 @@ fn shares_of<'a>(
     Ok(shares)
 }
 
-/// Appends what is pending for each consumer, with a space between each two.
+/// Appends how many entries are pending for each consumer, with a space between each two.
 #[tactic(auto, using(crate::proofs::FormLemmas::join_by_map))]
 fn print_shares(
     alloc: Global,
@@ -49,7 +49,7 @@ fn print_shares(
     print_joined(alloc, &shares_of(alloc, consumers)?, " ", line)
 }
 
-/// How much is pending, from where to where, and with whom; `empty` where nothing is pending.
+/// How many entries are pending, the first and last id, and the consumers; `empty` if none is pending.
 impl PrintedForm for StreamPendingReply {
     ghost form = { pending_form };
 
@@ -65,7 +65,7 @@ impl PrintedForm for StreamPendingReply {
     }
 }
 
-/// The id, the consumer, the milliseconds and the times, with a space between each two.
+/// The id, the consumer, the milliseconds and the delivery count, with a space between each two.
 impl PrintedForm for StreamPendingId {
     ghost form = { pending_id_form };
 

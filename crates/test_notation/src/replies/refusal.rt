@@ -1,4 +1,4 @@
-//! Refusals, and answers that may be refused.
+//! Refusals, and results that may be a refusal.
 ghost use Rattle.std.specs.Prelude.{◌≡◌, ◌++◌, codes, decimal};
 ghost use Rattle.test_notation.specs.Refusal.{refusal_number, answer_form};
 
@@ -15,7 +15,7 @@ impl PrintedForm for ParsingError {
     }
 }
 
-/// The record, or why there is none.
+/// The record, or its refusal.
 impl<T: PrintedForm> PrintedForm for Result<T, ParsingError> {
     ghost form = { answer_form T.form };
 
@@ -27,7 +27,7 @@ impl<T: PrintedForm> PrintedForm for Result<T, ParsingError> {
     }
 }
 
-/// The place of the cause in the order in which `ParsingError` lists them, from 1.
+/// Returns the position of the cause in the order in which `ParsingError` lists them, from 1.
 fn number_of(error: &ParsingError) -> usize
     ensures { result ≡ refusal_number error.now }
 {

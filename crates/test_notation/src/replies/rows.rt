@@ -48,7 +48,7 @@ impl PrintedForm for StreamReadReply {
     }
 }
 
-/// The next id, the entries and the deleted ids in brackets, and whether there were others.
+/// The next id, the entries and the deleted ids in brackets, and whether there were invalid entries.
 impl PrintedForm for StreamAutoClaimReply {
     ghost form = { autoclaim_form };
 

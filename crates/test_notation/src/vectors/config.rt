@@ -1,4 +1,4 @@
-//! The rows of config calls, which answer options or why they are refused.
+//! The rows of config calls, which return options or refuse them.
 ghost use Rattle.std.specs.Prelude.{◌≡◌, ◌+◌, IfOk, OnOk, length, string_bytes, vec_len};
 ghost use Rattle.test_notation.specs.ConfigText.{IsConfigText, IsRefusalText, refusal_text};
 ghost use Rattle.test_notation.specs.Vectors.{AddsRow, AddsRows};
@@ -7,7 +7,7 @@ use crate::vectors::{OptionsVector, Row, push_row, push_text_row};
 use std::alloc::{AllocError, Global};
 use stream_options::{ConfigError, StreamConfigOptions};
 
-/// What a config call answers.
+/// The result of a config call.
 pub type ConfigAnswer = Result<StreamConfigOptions, ConfigError>;
 
 /// Adds the row of each config call of a table, in order.
@@ -25,7 +25,7 @@ pub fn push_config_rows(
     Ok(())
 }
 
-/// Adds the row of what a call answered: its options, or why it was refused.
+/// Adds the row of a call's result: its options, or why it was refused.
 fn push_answer(
     alloc: Global,
     rows: &mut Vec<Row>,
@@ -43,7 +43,7 @@ fn push_answer(
     }
 }
 
-/// The text of a refusal, with a remark where that is not what it prints.
+/// Returns the text of a refusal, with a remark if it prints another text.
 fn printed_refusal(alloc: Global, refusal: &ConfigError) -> Result<String, AllocError>
     ensures { IfOk result (λ text. IsRefusalText refusal.now (string_bytes text)) }
 {
@@ -54,7 +54,7 @@ fn printed_refusal(alloc: Global, refusal: &ConfigError) -> Result<String, Alloc
     Ok(text)
 }
 
-/// The text that a refusal has to print.
+/// Returns the text that a refusal has to print.
 fn text_of_refusal(alloc: Global, refusal: &ConfigError) -> Result<String, AllocError>
     ensures { IfOk result (λ text. string_bytes text ≡ refusal_text refusal.now) }
 {

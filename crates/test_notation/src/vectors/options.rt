@@ -1,4 +1,4 @@
-//! The vectors of options: the program `streams_bench` prints them, and tests write them into places
+//! The vectors of options: the program `streams_bench` prints them, and tests write them into buffers
 //! of each size.
 pub mod add;
 pub mod claim;

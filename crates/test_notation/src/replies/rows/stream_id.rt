@@ -8,7 +8,7 @@ use redis_streams::StreamId;
 use std::alloc::{AllocError, Global};
 use std::collections::{BTreeMap, HashMap};
 
-/// The id, the fields by their names' bytes, and the two numbers where they are known.
+/// The id, the fields in the order of their names' bytes, and the two numbers if they are known.
 impl PrintedForm for StreamId {
     ghost form = { entry_form };
 
@@ -44,7 +44,7 @@ impl PrintedForm for Field<'_> {
     }
 }
 
-/// Appends the text that a value reads as, or a question mark where it reads as none.
+/// Appends the text of a value, or a question mark if it is not a text.
 pub(crate) fn print_value(alloc: Global, value: &Value, line: &mut String) -> Result<(), AllocError>
     ensures { OnOk result (string_bytes line.new ≡ string_bytes line.old ++ value_form value.now) }
 {
@@ -55,7 +55,7 @@ pub(crate) fn print_value(alloc: Global, value: &Value, line: &mut String) -> Re
     }
 }
 
-/// The fields of a map, by their names' bytes.
+/// Returns the fields of a map, in the order of their names' bytes.
 fn sorted<'a>(
     alloc: Global,
     map: &'a HashMap<String, Value>,
@@ -69,7 +69,7 @@ fn sorted<'a>(
     Ok(fields)
 }
 
-/// The fields of a map that is sorted, in its order.
+/// Returns the fields of a map that is sorted, in its order.
 fn fields_in<'a>(
     alloc: Global,
     sorted: &BTreeMap<&'a str, &'a Value>,
@@ -83,7 +83,7 @@ fn fields_in<'a>(
     Ok(fields)
 }
 
-/// Appends the fields, by their names' bytes, with a comma between each two.
+/// Appends the fields, in the order of their names' bytes, with a comma between each two.
 #[tactic(auto, using(crate::proofs::FormLemmas::join_by_map))]
 fn print_fields(
     alloc: Global,

@@ -102,7 +102,7 @@ pub fn keyword_vectors(alloc: Global) -> Result<[OptionsVector<StreamAddOptions>
     Ok([("v66", options, "IDMP NOMKSTREAM IDMPAUTO MINID ~ = LIMIT 0")])
 }
 
-/// So many entries stay, exactly.
+/// Keeps exactly this number of entries.
 fn exactly(entries: usize) -> StreamTrimStrategy {
     StreamTrimStrategy::maxlen(StreamTrimmingMode::Exact, entries)
 }

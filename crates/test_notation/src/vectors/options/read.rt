@@ -37,7 +37,7 @@ pub fn nack_vectors() -> [OptionsVector<StreamNackOptions>; 1]
     [("v35", StreamNackOptions::new(StreamNackMode::Fail), "FAIL")]
 }
 
-/// Read options whose names are no argument, or several, v68 and v69.
+/// Read options whose names write no argument, or several, v68 and v69.
 pub fn names_vectors(alloc: Global) -> Result<[OptionsVector<StreamReadOptions>; 2], AllocError>
     ensures { IfOk result (λ vectors. map (λ v. v.0.now) vectors
         ≡ codes "v68" ∷ codes "v69" ∷ []) }
