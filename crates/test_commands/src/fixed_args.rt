@@ -1,13 +1,13 @@
-//! Arguments that are written with no memory asked for.
+//! Arguments that are written without allocating.
 ghost use Rattle.std.specs.Prelude.{◌≡◌, [], IfOk, IfErr, IsOk};
 ghost use Rattle.redis_args.specs.Room.{HasRoom};
 
 use redis_resp::{FixedArgs, ToRedisArgs, WriteError};
 
-/// The arguments of a value, in a place of a fixed size. It takes no memory.
+/// Writes the arguments of a value into a buffer of a fixed size. It takes no memory.
 ///
-/// Where there is room for all of them, at most `N` arguments of at most `B` bytes together, the
-/// answer is Ok; `Full` comes only where there is not.
+/// If there is room for all of them, at most `N` arguments of at most `B` bytes together, the
+/// result is Ok. Otherwise it is `Full`.
 #[tactic(auto, using(redis_args::proofs::RoomLemmas::room_is_enough))]
 pub fn fixed_args_of<T: ToRedisArgs, const N: usize, const B: usize>(
     value: &T,

@@ -1,4 +1,4 @@
-//! The tests, by what they try, and what they share.
+//! The tests, by subject, and what they share.
 
 mod answer;
 mod args;
@@ -21,7 +21,7 @@ fn text(rt: &(impl AllocGlobal + Abort), text: &str) -> String {
     String::from_str(rt.alloc(), text).expect(rt, "memory")
 }
 
-/// The words of a line as arguments; none of the empty line.
+/// The words of a line as arguments; no arguments for the empty line.
 fn words_of(rt: &(impl AllocGlobal + Abort), line: &str) -> Vec<Vec<u8>> {
     if line == "" {
         return Vec::new(rt.alloc());
@@ -37,8 +37,8 @@ fn words_in(alloc: Global, line: &str) -> Result<Vec<Vec<u8>>, AllocError> {
     Ok(words)
 }
 
-/// The value writes the words of this line, each one argument: as a list, after what a list
-/// holds, and into a place of a fixed size with room.
+/// Checks that the value writes the words of this line, each one argument: as a list, after the
+/// elements of a list, and into a buffer of a fixed size with room.
 fn check<T: ToRedisArgs>(rt: &(impl AllocGlobal + Abort), value: &T, line: &str) {
     let words = words_of(rt, line);
     assert!(rt; is_listed(rt, value, &words), "of {line}");
@@ -61,7 +61,7 @@ fn is_added<T: ToRedisArgs>(rt: &(impl AllocGlobal + Abort), value: &T, words: &
     answer == Ok(()) && held.get(1..) == Some(words)
 }
 
-/// Written into this empty place the value returns this, and then the words of this line are there.
+/// Checks what writing the value into this empty buffer returns, and that the buffer then holds these words.
 fn check_place<T: ToRedisArgs, const N: usize, const B: usize>(
     rt: &(impl AllocGlobal + Abort),
     mut place: FixedArgs<N, B>,
@@ -73,7 +73,7 @@ fn check_place<T: ToRedisArgs, const N: usize, const B: usize>(
     assert!(rt; holds(&place, &words_of(rt, line)), "of {line}");
 }
 
-/// These arguments are in the place, and nothing else.
+/// Whether the buffer holds these arguments and nothing else.
 fn holds<const N: usize, const B: usize>(place: &FixedArgs<N, B>, args: &[Vec<u8>]) -> bool {
     for (index, arg) in args.iter().enumerate() {
         if place.get(index) != Some(arg.as_slice()) {

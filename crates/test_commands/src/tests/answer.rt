@@ -1,4 +1,4 @@
-//! Answers, each read as the type of its command.
+//! Replies, each read as the type of its command.
 use redis_resp::{ParsingError, Value};
 use redis_wire::{Reply, ReplyError, ServerError};
 use std::process::Abort;

@@ -1,11 +1,11 @@
-//! Plain arguments, and the writers that they go into.
+//! Plain arguments, and the writers that they are written to.
 use crate::tests::{check, check_place, holds, is_listed, text};
 use redis_args::{
     FixedArgs, RawBytes, RedisWrite, ToRedisArgs, WriteError, equal_bytes, equal_write_errors,
 };
 use std::process::Abort;
 
-/// The value means these arguments: as a list, and in a place of a fixed size.
+/// Checks that the value writes these arguments: as a list, and in a buffer of a fixed size.
 fn check_args<T: ToRedisArgs>(rt: &(impl AllocGlobal + Abort), value: &T, wanted: &[&[u8]]) {
     let args = args_of(rt, wanted);
     assert!(rt; is_listed(rt, value, &args));
@@ -60,7 +60,7 @@ fn lists_and_options_are_joined(rt: HostRuntime) {
     check(&rt, &[("f", 1u64), ("g", 2)], "f 1 g 2");
 }
 
-/// (One tuple a test: of several in one function each costs many times as much to prove.)
+/// (One tuple a test: several in one function cost many times as much to prove.)
 #[test]
 fn three_are_joined(rt: HostRuntime) {
     check(&rt, &("a", "b", "c"), "a b c");
@@ -105,7 +105,7 @@ fn a_little_place_is_full(rt: HostRuntime) {
     assert!(rt; holds(&two, &args_of(&rt, &[b"abc", b""])));
 }
 
-/// The arguments before the one that was refused stand there, each whole, and the error is the
+/// The arguments before the one that was refused are in the buffer, each whole, and the error is the
 /// writer's own.
 #[test]
 fn a_refusal_is_passed_on(rt: HostRuntime) {

@@ -6,7 +6,7 @@ use std::process::Abort;
 use stream_options::{StreamReadOptions, StreamTrimStrategy, StreamTrimmingMode};
 use test_notation::call_sequences::{AddCall, ReadCall, play_add, play_read};
 
-/// A name of one argument, or of none where the text is empty.
+/// A name of one argument, or of none if the text is empty.
 fn name(alloc: Global, text: &str) -> Result<Vec<RawBytes>, AllocError> {
     let mut parts = Vec::new(alloc);
     if text != "" {
@@ -37,7 +37,7 @@ fn idmpauto(alloc: Global, producer_id: &str) -> Result<AddCall, AllocError> {
     Ok(AddCall::Idmpauto(String::from_str(alloc, producer_id)?))
 }
 
-/// The options write the words of this line, in memory and in place.
+/// Checks that the options write the words of this line, in memory and in place.
 fn check<T: ToRedisArgs>(rt: &(impl Abort + AllocGlobal), options: &T, line: &str) {
     let words = words_of(rt, line);
     assert!(rt; is_listed(rt, options, &words), "of {line}");
@@ -77,7 +77,7 @@ fn the_last_idempotency_wins(rt: HostRuntime) {
     check(&rt, &play_add(calls), line);
 }
 
-/// The calls make options that write the words of this line, and are for XREAD alone or not.
+/// Checks that the calls make options that write the words of this line, and whether they are for XREAD only.
 fn check_read(rt: &(impl Abort + AllocGlobal), calls: Vec<ReadCall>, read_only: bool, line: &str) {
     let options = play_read(rt.alloc(), calls).expect(rt, "memory");
     assert!(rt; options.read_only() == read_only);
@@ -117,8 +117,8 @@ fn six_of_read(alloc: Global) -> Result<Vec<ReadCall>, AllocError> {
     Ok(vec![in alloc; noack, first, block, claim, last, count]?)
 }
 
-/// The calls of a play are made, and the options that it makes write what they have to; memory is
-/// asked for by the calls alone and by the play.
+/// Makes the calls of a sequence and applies them, and checks what the options write. Only making the
+/// calls and applying them allocate.
 fn check_played(rt: &(impl AllocGlobal + Abort)) -> Result<(), AllocError> {
     let options = play_read(rt.alloc(), six_of_read(rt.alloc())?)?;
     assert!(rt; writes_played(&options));
@@ -147,8 +147,8 @@ fn ample_memory_makes_a_play(rt: HostRuntime) {
     assert!(rt; check_played(&rt) == Ok(()));
 }
 
-/// `tools/sweep-refused-memory` runs it with each request for memory refused in turn. A wrong answer
-/// ends it in `check_played`; that memory ran out is a right one.
+/// `tools/sweep-refused-memory` runs it with each request for memory refused in turn. A wrong result
+/// ends it in `check_played`; the error that memory ran out is a right result.
 #[test]
 fn refused_memory_makes_no_other_play(rt: HostRuntime) {
     match check_played(&rt) {

@@ -41,7 +41,7 @@ fn an_entry_is_added_with_options(rt: HostRuntime) {
     check(&rt, &add, "XADD none NOMKSTREAM MAXLEN = 10 * item tea");
 }
 
-/// Fields of this name, that were read of an entry.
+/// Fields of this name, as they were read from an entry.
 fn fields_of(rt: &(impl AllocGlobal + Abort), name: &str, values: &[u64]) -> PairList<u64> {
     let mut read = Vec::new(rt.alloc());
     for value in values {

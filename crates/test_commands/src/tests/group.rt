@@ -1,4 +1,4 @@
-//! Commands on groups and what is pending for them.
+//! Commands on groups and their pending entries.
 use crate::tests::check;
 use stream_commands::{
     AtLeastOne, JustIdIsSet, xack, xack_del, xautoclaim, xautoclaim_count, xautoclaim_justid,

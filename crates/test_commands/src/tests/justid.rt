@@ -1,5 +1,5 @@
-//! The answer of an automatic claim that asks for ids alone, by both calls. A reply is written as its
-//! bytes, with a blank in place of each line end.
+//! The reply of XAUTOCLAIM with JUSTID, by both calls. A reply is written as its bytes,
+//! with a blank in place of each line end.
 use redis_resp::{ParsingError, Value};
 use redis_streams::StreamAutoClaimJustIdReply;
 use redis_wire::{Decoded, Limits, Reply, decode};
@@ -8,7 +8,7 @@ use std::process::Abort;
 use stream_commands::xautoclaim_justid;
 use stream_options::StreamAutoClaimOptions;
 
-/// The value that these bytes are.
+/// Decodes these bytes as a value.
 fn value_of(rt: &(impl Abort + AllocGlobal), reply: &str) -> Option<Value> {
     let mut bytes = Vec::new(rt.alloc());
     for line in reply.split(' ') {
@@ -40,14 +40,14 @@ fn read_owned(alloc: Global, value: Value) -> Answer {
     xautoclaim_justid("orders", "g", "c", 0, "0-0", options).read(alloc, value)
 }
 
-/// `Debug` shows the answer so.
+/// Checks that `Debug` prints the result like this.
 fn check_shown(rt: &(impl Abort + AllocGlobal), answer: &Answer, shown: &str) {
     let told = (format!(in rt.alloc(); "{answer:?}")).expect(rt, "memory");
     assert!(rt; told.as_str() == shown, "{told}");
 }
 
-/// Both calls answer this of the value, as `Debug` shows a record or a refusal; a copy of a record
-/// shows the same.
+/// Checks that both calls return this for the value, as `Debug` prints a record or a refusal. A copy of
+/// a record prints the same.
 fn check_answer(rt: &(impl Abort + AllocGlobal), reply: &str, shown: &str) {
     let value = value_of(rt, reply).expect(rt, "a value");
     check_shown(rt, &read_borrowed(rt.alloc(), &value), shown);
@@ -59,8 +59,8 @@ fn check_answer(rt: &(impl Abort + AllocGlobal), reply: &str, shown: &str) {
     }
 }
 
-/// As redis-server 7.0 answers, and as 6.2 does, which tells no deleted ids, and what is refused.
-/// A reply before each mark, and what is shown of it after the mark.
+/// Replies of redis-server 7.0, and of 6.2, which lists no deleted ids, and replies that are refused.
+/// Each line has a reply before the mark, and what is printed of it after the mark.
 const ANSWERS: &str = "\
 *3 $3 5-0 *2 $3 3-0 $3 4-0 *1 $3 1-0 = Ok(StreamAutoClaimJustIdReply { next_stream_id: \"5-0\", claimed: [\"3-0\", \"4-0\"], deleted_ids: [\"1-0\"] })\n\
 *3 $3 0-0 *0 *0 = Ok(StreamAutoClaimJustIdReply { next_stream_id: \"0-0\", claimed: [], deleted_ids: [] })\n\

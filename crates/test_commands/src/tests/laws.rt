@@ -1,4 +1,4 @@
-//! Whole commands of texts are the lists that the laws speak of.
+//! Whole commands of texts are the argument lists of the laws.
 ghost use Rattle.std.specs.Prelude.{◌≡◌, [], ◌∷◌, map, IfOk};
 ghost use Rattle.stream_commands.specs.WholeCommands.{add_list, trim_list, read_list, claim_list, autoclaim_list};
 

@@ -1,15 +1,15 @@
-//! Calls that write arguments and take memory, each request for which may be refused: each call
-//! gives its right answer or says that memory ran out, and nothing else; a list that was written
-//! into then holds a proper beginning of the arguments behind what it held.
+//! Calls that write arguments and take memory, each request for which may be refused. Each call
+//! returns its right result or the error that memory ran out, and nothing else. A list that was written
+//! to then holds a proper prefix of the arguments after its own elements.
 //!
-//! `tools/sweep-refused-memory` runs the test whose name says `refused_memory` with each request
+//! `tools/sweep-refused-memory` runs the test with `refused_memory` in its name with each request
 //! refused in turn.
 use redis_args::{RawBytes, ToRedisArgs, WriteError};
 use std::alloc::AllocError;
 use std::process::Abort;
 use stream_options::{StreamIdempotencyMode, StreamReadOptions};
 
-/// The arguments are words of these, from the first on.
+/// Whether the arguments are a prefix of these words.
 fn are_begun(args: &[Vec<u8>], words: &[&str]) -> bool {
     for (index, arg) in args.iter().enumerate() {
         let is_begun = match words.get(index) {
@@ -23,7 +23,7 @@ fn are_begun(args: &[Vec<u8>], words: &[&str]) -> bool {
     true
 }
 
-/// The value writes these words as a list.
+/// Checks that the value writes these words as a list.
 fn check_listed<T: ToRedisArgs>(
     rt: &(impl AllocGlobal + Abort),
     value: &T,
@@ -34,7 +34,7 @@ fn check_listed<T: ToRedisArgs>(
     Ok(())
 }
 
-/// The value writes the words behind the first one as a list, and behind a list of the first one.
+/// Checks that the value writes the words after the first one as a list, and after a list of the first one.
 fn check_written<T: ToRedisArgs>(
     rt: &(impl AllocGlobal + Abort),
     value: &T,
@@ -97,7 +97,7 @@ fn ample_memory_gives_right_answers(rt: HostRuntime) {
     assert!(rt; check_all(&rt) == Ok(()));
 }
 
-/// A wrong answer ends the test in `check_written`; that memory ran out is a right one.
+/// A wrong result ends the test in `check_written`; the error that memory ran out is a right result.
 #[test]
 fn refused_memory_changes_no_answer(rt: HostRuntime) {
     match check_all(&rt) {

@@ -1,5 +1,5 @@
-//! Written options and refused settings, against words and texts. The vectors of `streams_bench`
-//! hold the sentences that stand there.
+//! Written options and refused settings, compared with words and texts. The vectors of `streams_bench`
+//! hold the expected argument lists.
 mod config;
 mod laws;
 mod read;

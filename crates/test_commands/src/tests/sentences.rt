@@ -1,4 +1,4 @@
-//! Argument lists, and the options that are read of them.
+//! Argument lists, and the options that are parsed from them.
 use crate::tests::sentences::rows::ROWS;
 use crate::tests::words_of;
 use redis_args::ToRedisArgs;
@@ -12,7 +12,7 @@ mod laws;
 mod lines;
 mod rows;
 
-/// The reader returned this count, and options that write so many of the first arguments.
+/// Checks that the parser returned this count, and options that write the first `count` arguments again.
 fn check_read<T: ToRedisArgs + Drop>(
     rt: &(impl AllocGlobal + Abort),
     args: &[Vec<u8>],
@@ -28,7 +28,7 @@ fn check_read<T: ToRedisArgs + Drop>(
     );
 }
 
-/// If the outcome of the line is `ok k`, the options that are read of it write its first k words
+/// If the outcome of the line is `ok k`, checks that the options parsed from it write its first k words
 /// again.
 fn check_row(rt: &(impl AllocGlobal + Abort), line: &str, outcome: &str) {
     let Some(count) = outcome.strip_prefix("ok ") else {

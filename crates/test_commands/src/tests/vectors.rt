@@ -1,5 +1,5 @@
-//! The vectors of options, written into places of each size, and after what a list holds by a writer
-//! that refuses at each place.
+//! The vectors of options, written into buffers of each size, and after the elements of a list by a writer
+//! that refuses at each position.
 ghost use Rattle.std.specs.Prelude.{⊤, map};
 
 use crate::tests::{holds, words_of};
@@ -8,7 +8,7 @@ use std::process::Abort;
 use test_notation::vectors::OptionsVector;
 use test_notation::vectors::options::{add, claim, config, read, trim};
 
-/// A list that takes `room` more arguments, and then refuses each.
+/// A list that accepts `room` more arguments, and then refuses each.
 #[derive(Drop)]
 struct Bounded {
     list: Vec<Vec<u8>>,
@@ -30,7 +30,7 @@ impl RedisWrite for Bounded {
     }
 }
 
-/// The result of writing so many words into a writer with this room.
+/// The result of writing all of `words` to a writer with this room.
 fn result_of(words: &[Vec<u8>], room: usize) -> Result<(), WriteError> {
     if room < words.len() {
         Err(WriteError::Full)
@@ -39,7 +39,7 @@ fn result_of(words: &[Vec<u8>], room: usize) -> Result<(), WriteError> {
     }
 }
 
-/// A place for `N` arguments has all of these words, or the first `N` and refuses the next.
+/// Checks that a buffer for `N` arguments has all of these words, or the first `N` and refuses the next.
 fn check_room<T: ToRedisArgs, const N: usize>(
     rt: &impl Abort,
     mut place: FixedArgs<N, 128>,
@@ -50,14 +50,14 @@ fn check_room<T: ToRedisArgs, const N: usize>(
     assert!(rt; holds(&place, &words[..N.min(words.len())]), "of {N}");
 }
 
-/// Places for so many arguments.
+/// Checks buffers for these numbers of arguments.
 macro_rules! check_rooms {
     ($rt:expr, $value:expr, $words:expr, $($rooms:literal)*) => {
         $(check_room($rt, FixedArgs::<$rooms, 128>::new(), $value, $words);)*
     };
 }
 
-/// A list with room for so many more keeps what it held, and has the words before the refusal.
+/// Checks that a list with room for `room` more keeps its elements, and has the words before the refusal.
 fn check_refusal<T: ToRedisArgs>(
     rt: &(impl AllocGlobal + Abort),
     value: &T,
@@ -75,7 +75,7 @@ fn check_refusal<T: ToRedisArgs>(
     assert!(rt; out.list.get(1..) == Some(begun), "room {room}");
 }
 
-/// The options write the words of this text, `-` for none.
+/// Checks that the options write the words of this text, `-` for none.
 fn check_value<T: ToRedisArgs>(rt: &(impl AllocGlobal + Abort), value: &T, stored: &str) {
     let words = words_of(rt, if stored == "-" { "" } else { stored });
     check_rooms!(rt, value, &words, 0 1 2 3 4 5 6 7 8 9 10);

@@ -8,7 +8,7 @@ use stream_options::{
 
 type ConfigAnswer = Result<StreamConfigOptions, ConfigError>;
 
-/// The call was accepted, and its options write these words; or it was refused with this text.
+/// Checks that the call was accepted and its options write these words, or that it was refused with this text.
 fn check_answer(rt: &(impl AllocGlobal + Abort), answer: ConfigAnswer, wanted: &str) {
     match answer {
         Ok(options) => check(rt, &options, wanted),

@@ -1,10 +1,10 @@
-//! Argument lists that sentences share, and why the laws leave no doubt over them.
+//! Argument lists that several options write, and why the laws exclude them.
 use crate::tests::{check, text};
 use stream_options::{
     StreamAddOptions, StreamClaimOptions, StreamTrimOptions, StreamTrimStrategy, StreamTrimmingMode,
 };
 
-/// A rest may not begin with a fixed word of its type.
+/// The rest may not begin with a fixed word of its type.
 #[test]
 fn a_rest_that_is_not_free(rt: HostRuntime) {
     let unlimited = StreamTrimOptions::maxlen(StreamTrimmingMode::Approx, 10);

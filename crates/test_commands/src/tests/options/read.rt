@@ -4,7 +4,7 @@ use redis_args::{FixedArgs, RawBytes, ToRedisArgs, WriteError};
 use std::process::Abort;
 use stream_options::StreamReadOptions;
 
-/// With these names the options are no plain read, and write these words.
+/// Checks that with these names the options are not for XREAD only, and write these words.
 fn check_grouped<G: ToRedisArgs + Drop, C: ToRedisArgs + Drop>(
     rt: &(impl AllocGlobal + Abort),
     options: StreamReadOptions,
@@ -56,7 +56,7 @@ fn names_that_are_not_single(rt: HostRuntime) {
     check_grouped(&rt, options, None::<u16>, several, "GROUP c BLOCK COUNT 2");
 }
 
-/// Names that are not single run into one another.
+/// Names that are not one argument each can write the same list.
 #[test]
 fn names_that_run_into_one_another(rt: HostRuntime) {
     let options = StreamReadOptions::default();

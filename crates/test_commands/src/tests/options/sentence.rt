@@ -56,7 +56,7 @@ fn the_last_call_of_add_counts(rt: HostRuntime) {
     check(&rt, &automatic, line);
 }
 
-/// The mode and a copy of it write these words.
+/// Checks that the mode and a copy of it write these words.
 fn check_mode(rt: &(impl AllocGlobal + Abort), mode: &StreamIdempotencyMode, line: &str) {
     check(rt, mode, line);
     let copy = mode.try_clone(rt.alloc()).expect(rt, "memory");

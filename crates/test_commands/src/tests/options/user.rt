@@ -8,7 +8,7 @@ use redis_args::{FixedArgs, RedisWrite, ToRedisArgs, WriteError};
 use std::process::Abort;
 use stream_options::{StreamDeletionPolicy, StreamTrimOptions, StreamTrimmingMode};
 
-/// Room for eight arguments of 64 bytes in all, and none for the word `LIMIT`.
+/// Room for eight arguments of 64 bytes in all; it refuses the word `LIMIT`.
 #[derive(Drop)]
 struct WithoutLimit {
     store: FixedArgs<8, 64>,
@@ -28,7 +28,7 @@ impl RedisWrite for WithoutLimit {
     }
 }
 
-/// The answer of writing these options without room for the word `LIMIT`, and what is then held.
+/// Checks the result of writing these options to a writer that refuses `LIMIT`, and what it then holds.
 fn check_without_limit(
     rt: &(impl AllocGlobal + Abort),
     options: &StreamTrimOptions,

@@ -1,4 +1,4 @@
-//! Equality, copies and defaults, as a caller can prove of them.
+//! Equality, copies and defaults, as a caller can prove them.
 ghost use Rattle.std.specs.Prelude.{◌≡◌};
 ghost use Rattle.stream_options.specs.declared.options.policy.StreamDeletionPolicy.TheVariants.{KeepRef};
 

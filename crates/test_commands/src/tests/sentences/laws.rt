@@ -1,4 +1,4 @@
-//! Equal errors, and others.
+//! Equal errors, and unequal ones.
 use stream_option_parsing::laws::{equal_run_errors, equal_sentence_errors};
 use stream_option_parsing::{RunError, SentenceError};
 

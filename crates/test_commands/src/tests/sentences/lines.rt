@@ -28,8 +28,8 @@ config IDMP-MAXSIZE 10000 x";
 const ANSWER: &str = "ok 5\nno\nno\nok 4\nok 0\nno\nno\nno\nok 3\nok 0\nok 3\nno\nok 1\nunknown\n\
 unknown\nok 2\n";
 
-/// It gives its bytes in chunks of at most `size`. It fails once where `reads` were made, and would
-/// then go on.
+/// A reader that returns its bytes in chunks of at most `size`. It fails once, after `reads` reads, and
+/// would go on after that.
 #[derive(Drop)]
 struct Chunks<'a> {
     bytes: &'a [u8],
@@ -59,7 +59,7 @@ fn chunks_of(text: &str) -> Chunks<'_> {
     }
 }
 
-/// What a page does that has no room.
+/// What a page does that has no room left.
 #[derive(Clone, Copy, Debug)]
 enum Full {
     Fails,
@@ -68,7 +68,7 @@ enum Full {
     TakesNoneOnce,
 }
 
-/// It takes `room` bytes, at most three at a time, and then does what its `full` says.
+/// A writer that accepts `room` bytes, at most three at a time, and then does what `full` selects.
 #[derive(Drop)]
 struct Page {
     written: Vec<u8>,
@@ -77,7 +77,7 @@ struct Page {
 }
 
 impl Page {
-    /// The answer of a page without room, which has room from then on where it says so.
+    /// The result of a write to a page without room. With the `Once` variants it has room from then on.
     fn write_without_room(&mut self) -> io::Result<usize>
         ensures { IfOk result (λ count. count ≡ 0) }
     {
@@ -114,7 +114,7 @@ impl Write for Page {
     }
 }
 
-/// An empty page that asks for no more memory up to 128 bytes.
+/// An empty page that allocates no more memory up to 128 bytes.
 fn page_of(alloc: Global, room: usize, full: Full) -> Result<Page, AllocError> {
     Ok(Page {
         written: Vec::with_capacity(alloc, 128)?,
@@ -123,12 +123,12 @@ fn page_of(alloc: Global, room: usize, full: Full) -> Result<Page, AllocError> {
     })
 }
 
-/// Answers the lines of the input on the page.
+/// Runs the program on the input, with the page as its output.
 fn answer_on(alloc: Global, input: &mut Chunks<'_>, page: &mut Page) -> Result<(), RunError> {
     run(alloc, input, page)
 }
 
-/// These bytes, in chunks of at most `size`, have this answer, on a page with room for no more.
+/// Checks that these bytes, in chunks of at most `size`, have this output, on a page with room for no more.
 fn check_lines(
     rt: &(impl AllocGlobal + Abort),
     bytes: &[u8],
@@ -146,7 +146,7 @@ fn check_lines(
     assert_eq!(rt; page.written.as_slice(), answer.as_bytes());
 }
 
-/// This line, which ends with the input, has this answer.
+/// Checks that this line, which ends with the input, has this output.
 fn check_line(rt: &(impl AllocGlobal + Abort), line: &str, wanted: &str) {
     let mut page = page_of(rt.alloc(), 128, Full::Fails).expect(rt, "memory");
     let mut input = chunks_of(line);
@@ -179,7 +179,7 @@ fn lines_are_parted(rt: HostRuntime) {
     check_lines(&rt, bytes, 1, "no\nok 3\nunknown\n", Full::Fails);
 }
 
-/// Where a read fails after so many, nothing is written.
+/// Checks that nothing is written if a read fails after `reads` reads.
 fn check_failing_read(rt: &(impl AllocGlobal + Abort), reads: usize) {
     let mut page = page_of(rt.alloc(), ANSWER.len(), Full::Fails).expect(rt, "memory");
     let mut input = chunks_of(LINES);
@@ -191,14 +191,14 @@ fn check_failing_read(rt: &(impl AllocGlobal + Abort), reads: usize) {
 
 #[test]
 fn nothing_is_written_where_a_read_fails(rt: HostRuntime) {
-    // the last of these would have found the end
+    // the last of these reads would have found the end
     for reads in 0..LINES.len().div_ceil(7) + 1 {
         check_failing_read(&rt, reads);
     }
 }
 
-/// Where a page has too little room, so much is written, also where it would take more at the next
-/// try.
+/// Checks that a page with too little room holds the first `room` bytes of the output, even if it would
+/// accept more at the next write.
 fn check_little_room(rt: &(impl AllocGlobal + Abort), room: usize, full: Full) {
     let mut page = page_of(rt.alloc(), room, full).expect(rt, "memory");
     let answer = answer_on(rt.alloc(), &mut chunks_of(LINES), &mut page);

@@ -1,7 +1,7 @@
-//! Lines of sentences, and how each is answered: `ok k` where its first k words are a sentence of
-//! its type and a rest may follow, `no` where there is none, and `unknown` without a type.
+//! Lines of arguments, and the outcome of each: `ok k` if its first k words are the options of its
+//! type and any rest may follow, `no` if there are none, and `unknown` for an unknown type.
 
-/// A line, and its answer.
+/// A line, and its outcome.
 pub const ROWS: [(&str, &str); 63] = [
     ("trim", "no"),
     ("trim MAXLEN ~ 10 LIMIT 5 x", "ok 5"),

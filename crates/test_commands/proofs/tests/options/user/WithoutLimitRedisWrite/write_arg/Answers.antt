@@ -3,12 +3,12 @@ use Rattle.std.specs.Prelude.{OnErr}
 use Rattle.redis_args.proofs.WriterLemmas.{stops_at_once}
 use Rattle.test_commands.proofs.tests.options.user.WithoutLimitRedisWrite.write_arg.Goals as goal
 
--- beside a choice that stays the same
+-- maps the right part of a choice, and keeps the left one
 beside : {P Q X : Type 0} → (P → Q) → X ⊎ P → X ⊎ Q
 beside f (inl x) = inl x
 beside f (inr p) = inr (f p)
 
--- under an error
+-- maps what holds of an error
 on_err : {T E : Type 0} (r : Result T E) {P Q : Type 0} → (P → Q) → OnErr r P → OnErr r Q
 on_err (Ok x) f h = tt
 on_err (Err e) f h = f h
