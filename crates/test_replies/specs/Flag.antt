@@ -7,12 +7,12 @@ use Rattle.redis_resp.specs.Tree.{Tree, bulk, simple, verbatim, plain}
 abbrev pub flag_word : Bool → List ℕ
 flag_word flag = if flag then codes "yes" else codes "no"
 
--- the flag that a word is
+-- a word as a flag
 abbrev pub flag_in : List ℕ → Option Bool
 flag_in word = if bytes_eq word (codes "yes") then Some true
     else (if bytes_eq word (codes "no") then Some false else None)
 
--- the flag of a value with no attribute around it; `OK` and decimals, which are texts too, are none
+-- the flag of a value with no attribute around it; `OK` and decimals, which are texts too, are not flags
 abbrev pub flag_of_plain : Tree → Option Bool
 flag_of_plain (bulk bytes) = flag_in bytes
 flag_of_plain (simple text) = flag_in text
@@ -23,7 +23,7 @@ flag_of_plain _ = None
 abbrev pub flag_reading : Tree → Option Bool
 flag_reading t = flag_of_plain (plain t)
 
--- a flag that was written is read again
+-- a flag that was written is read back
 pub written_and_read : (flag : Bool) → flag_reading (bulk (flag_word flag)) ≡ Some flag
 written_and_read true = refl
 written_and_read false = refl

@@ -1,4 +1,4 @@
-//! The tests, by what they try.
+//! The tests, by subject.
 
 mod memory;
 mod moved;

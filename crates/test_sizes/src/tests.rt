@@ -12,12 +12,12 @@ use std::process::Abort;
 use std::test::Fail;
 use test_notation::PrintedForm;
 
-/// A line of items: what comes before them, one item, what comes between each two, and after
+/// A line of items: the text before them, one item, the text between each two, and the text after
 /// them.
 /// Each `$` in an item is its number, from 10,000 on, so that all numbers have five digits.
 type Line<'a> = (&'a str, &'a str, &'a str, &'a str);
 
-/// So many items as a line.
+/// A line of `count` items.
 fn line_of(alloc: Global, line: Line<'_>, count: usize) -> Result<String, AllocError> {
     let (before, item, between, behind) = line;
     let mut text = String::from_str(alloc, before)?;
@@ -37,7 +37,7 @@ fn line_of(alloc: Global, line: Line<'_>, count: usize) -> Result<String, AllocE
     Ok(text)
 }
 
-/// The counts of items that are tried: 0 to 64, 1,000 and 10,000, each by its step from 0 to 66.
+/// The counts of items that are tried: 0 to 64, 1,000 and 10,000, for the steps from 0 to 66.
 fn count_of(step: usize) -> usize {
     match step {
         65 => 1_000,
@@ -46,7 +46,7 @@ fn count_of(step: usize) -> usize {
     }
 }
 
-/// What both calls answer of the value has this printed form, and the borrowed value stays as it was.
+/// Checks that the results of both calls have this printed form, and that the borrowed value is unchanged.
 fn check_value<T: FromRedisValue + PrintedForm>(
     rt: &(impl AllocGlobal + Abort),
     value: Value,
@@ -59,7 +59,7 @@ fn check_value<T: FromRedisValue + PrintedForm>(
     check_answer(rt, from_redis_value::<T>(rt.alloc(), value), printed)
 }
 
-/// The answer has this printed form.
+/// Checks that the result has this printed form.
 fn check_answer<T: PrintedForm + Drop>(
     rt: &(impl AllocGlobal + Abort),
     answer: Result<T, ParsingError>,

@@ -1,7 +1,7 @@
-//! Calls that take memory, each request for which may be refused: each call gives its right answer
-//! or says that memory ran out, and nothing else, and a borrowed value is then as it was.
+//! Calls that take memory, each request for which may be refused. Each call returns its right result
+//! or the error that memory ran out, and nothing else. A borrowed value is unchanged after the call.
 //!
-//! `tools/sweep-refused-memory` runs the test whose name says `refused_memory` with each request
+//! `tools/sweep-refused-memory` runs the test with `refused_memory` in its name with each request
 //! refused in turn.
 use indexmap::IndexMap;
 use redis_resp::{FromRedisValue, ParsingError, RawBytes, Value};
@@ -19,7 +19,7 @@ use std::collections::{BTreeMap, HashMap};
 use std::process::Abort;
 use test_notation::{NotationError, PrintedForm, read_value};
 
-/// The value that the notation writes.
+/// Parses the notation as a value.
 fn value_of(rt: &(impl AllocGlobal + Abort), notation: &str) -> Result<Value, ParsingError> {
     match read_value(rt.alloc(), notation) {
         Ok(value) => Ok(value),
@@ -30,7 +30,7 @@ fn value_of(rt: &(impl AllocGlobal + Abort), notation: &str) -> Result<Value, Pa
     }
 }
 
-/// The record that the value of the notation reads as.
+/// Decodes the value of the notation as a record.
 fn record_of<T: FromRedisValue>(
     rt: &(impl AllocGlobal + Abort),
     notation: &str,
@@ -38,8 +38,8 @@ fn record_of<T: FromRedisValue>(
     T::from_redis_value(rt.alloc(), value_of(rt, notation)?)
 }
 
-/// Both calls read the value of the notation, and the borrowed call leaves it as it was, also where
-/// memory runs out.
+/// Checks that both calls read the value of the notation, and that the borrowed call leaves it unchanged,
+/// even if memory runs out.
 fn check_read<T: FromRedisValue>(
     rt: &(impl AllocGlobal + Abort),
     notation: &str,
@@ -54,7 +54,7 @@ fn check_read<T: FromRedisValue>(
     Ok(())
 }
 
-/// The record has this printed form.
+/// Checks that the record has this printed form.
 fn check_printed<T: PrintedForm + Drop>(
     rt: &(impl AllocGlobal + Abort),
     record: Result<T, AllocError>,
@@ -97,7 +97,7 @@ fn check_replies(rt: &(impl AllocGlobal + Abort)) -> Result<(), ParsingError> {
     check_read::<XAckDelStatusCode>(rt, "Int 1")
 }
 
-/// The fields `f`, 7, `names`, of two texts, and `none`, nil, are got of an entry.
+/// Checks the fields `f`, 7, `names`, of two texts, and `none`, nil, of an entry.
 fn check_fields(rt: &(impl AllocGlobal + Abort), entry: &StreamId) -> Result<(), ParsingError> {
     let text = entry.get::<String>(rt.alloc(), "f")?;
     assert!(rt; text.is_some_and(|text| text.as_str() == "7"));
@@ -122,7 +122,7 @@ fn check_an_entry(rt: &(impl AllocGlobal + Abort)) -> Result<(), ParsingError> {
     }
 }
 
-// The empty record of the type has this printed form, and a copy of a record has the record's.
+// Checks that the empty record of the type has this printed form, and that a copy of a record has the record's.
 macro_rules! check_copies {
     ($rt:expr, $record:ty, $empty:literal, $notation:literal, $text:literal) => {
         check_printed($rt, <$record>::empty($rt.alloc()), $empty)?;
@@ -130,7 +130,7 @@ macro_rules! check_copies {
     };
 }
 
-// A copy of the record has this printed form.
+// Checks that a copy of the record has this printed form.
 macro_rules! check_copy {
     ($rt:expr, $record:ty, $notation:literal, $text:literal) => {{
         let record = record_of::<$record>($rt, $notation)?;

@@ -1,9 +1,9 @@
 //! A read by value takes the values of fields out of the value that it consumes and copies none.
 //!
-//! Both tests build the same two values, a text and an array of a hundred texts, put the one or the
-//! other into the field of an entry, let the other go, and read the entry by value. As
-//! `tools/sweep-refused-memory` refuses each request for memory in turn, it tells of both tests the
-//! same number of requests, so that each request is met in both or in neither; a copy of the text
+//! Both tests build the same two values, a text and an array of a hundred texts. Each puts one of them
+//! into the field of an entry, drops the other, and reads the entry by value. As
+//! `tools/sweep-refused-memory` refuses each request for memory in turn, it reports the same number of
+//! requests for both tests, so that each request is met in both or in neither. A copy of the text
 //! would take one request more, and a copy of the array a hundred and one.
 use redis_resp::{ParsingError, Value, from_redis_value};
 use redis_streams::StreamReadReply;
@@ -29,12 +29,12 @@ fn named(alloc: Global, name: &str, value: Value) -> Result<Value, AllocError> {
     Ok(Value::Array(vec![in alloc; name, value]?))
 }
 
-/// An array of this value alone.
+/// An array that holds only this value.
 fn alone(alloc: Global, value: Value) -> Result<Value, AllocError> {
     Ok(Value::Array(vec![in alloc; value]?))
 }
 
-/// A read of the stream `s`, of the entry `1-0` with this value as its field `f`.
+/// A reply of XREAD on the stream `s`, with the entry `1-0` that has this value as its field `f`.
 fn read_of(alloc: Global, field: Value) -> Result<StreamReadReply, ParsingError> {
     let fields = named(alloc, "f", field)?;
     let row = named(alloc, "1-0", fields)?;

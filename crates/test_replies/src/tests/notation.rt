@@ -1,5 +1,5 @@
-//! Texts in the notation that hold a tab or a line feed, that memory ran out, as text, and equality
-//! of refusals. The program `test_cases` has the texts of one line.
+//! Texts in the notation that hold a tab or a line feed, the text of the error that memory ran out, and
+//! equality of refusals. The program `test_cases` has the texts of one line.
 use std::test::Fail;
 use test_notation::laws::equal_notation_errors;
 use test_notation::{NotationError, read_value};

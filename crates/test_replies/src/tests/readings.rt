@@ -8,8 +8,8 @@ use std::process::Abort;
 use std::test::Fail;
 use test_notation::read_value;
 
-/// Both calls answer this of the value, as `Debug` shows a record or a refusal, and the borrowed
-/// value stays as it was.
+/// Checks that both calls return this for the value, as `Debug` prints a record or a refusal, and that
+/// the borrowed value is unchanged.
 fn check_value<T: FromRedisValue + Debug>(
     rt: &(impl AllocGlobal + Abort),
     notation: &str,

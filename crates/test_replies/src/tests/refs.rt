@@ -1,4 +1,4 @@
-//! Views of what is read in place, and tables of the caller.
+//! Views of what is read in place, and tables that the caller supplies.
 use redis_wire::Limits;
 use redis_wire::place::Span;
 use std::iter::ExactSizeIterator;
@@ -9,20 +9,20 @@ use stream_in_place::{
     find_range, find_streams,
 };
 
-/// A read of one stream with one entry, which has two fields of one name.
+/// A reply of XREAD of one stream with one entry, which has two fields of one name.
 const READ: &[u8] =
     b"*1\r\n*2\r\n$1\r\ns\r\n*1\r\n*2\r\n$3\r\n1-0\r\n*4\r\n$1\r\na\r\n$1\r\n1\r\n$1\r\na\r\n$1\r\n2\r\n";
 
-/// An entry and a deleted id, behind the next id.
+/// The next id, an entry and a deleted id.
 const CLAIM: &[u8] =
     b"*3\r\n$3\r\n5-0\r\n*1\r\n*2\r\n$3\r\n1-0\r\n*2\r\n$1\r\na\r\n$1\r\n1\r\n*1\r\n$3\r\n2-0\r\n";
 
-/// How many an iterator says that it returns.
+/// The length that an iterator reports.
 fn size<I: ExactSizeIterator>(left: &I) -> usize {
     left.len()
 }
 
-/// What the views of a read count and find.
+/// The counts and the fields that the views of a read return.
 #[test]
 fn views_count_and_find(rt: HostRuntime) -> Result<(), Fail> {
     let mut tape = EntryTape::new(rt.alloc());
@@ -84,7 +84,7 @@ const NO_STREAM: StreamPlace = StreamPlace {
     to: 0,
 };
 
-/// Slices of the caller hold the places where there is room, and else are full.
+/// Slices of the caller hold the positions if there is room; otherwise the result is `Full`.
 #[test]
 fn tables_of_the_caller_are_filled(rt: HostRuntime) -> Result<(), Fail> {
     let mut streams = [NO_STREAM; 1];
@@ -99,7 +99,7 @@ fn tables_of_the_caller_are_filled(rt: HostRuntime) -> Result<(), Fail> {
     Ok(())
 }
 
-/// Slices of the caller hold entries and deleted ids where there is room for both.
+/// Slices of the caller hold entries and deleted ids if there is room for both.
 #[test]
 fn tables_of_the_caller_hold_ids(rt: HostRuntime) -> Result<(), Fail> {
     let bytes = b"*3\r\n$3\r\n0-0\r\n*1\r\n$3\r\n1-0\r\n*1\r\n$3\r\n2-0\r\n";

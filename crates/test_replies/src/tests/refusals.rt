@@ -1,5 +1,5 @@
-//! What no value has for its outcome: that memory ran out, as text, and equality of refusals, as a
-//! caller can prove of it.
+//! Facts of refusals that no value can show: the text of the error that memory ran out, and equality of
+//! refusals, as a caller can prove it.
 use redis_resp::{ParsingError, equal_parsing_errors};
 use std::test::Fail;
 use test_notation::PrintedForm;

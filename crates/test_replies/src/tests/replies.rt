@@ -1,3 +1,3 @@
-//! What both calls answer, and the codes of single entries.
+//! The results of both calls, and the codes of single entries.
 mod answers;
 mod status;

@@ -5,7 +5,7 @@ use std::test::Fail;
 use test_notation::row_lines::{PrintError, print_rows};
 use test_notation::vectors::Row;
 
-/// A row of the name `v01` for each text and the text that it has to be.
+/// A row of the name `v01` for each text and its expected text.
 fn rows_of(alloc: Global, texts: &[(&str, &str)]) -> Result<Vec<Row>, AllocError> {
     let mut rows = Vec::new(alloc);
     for (text, stored) in texts {
@@ -21,7 +21,7 @@ fn row(alloc: Global, text: &str, stored: &str) -> Result<Row, AllocError> {
     Ok(Row { name, text, stored })
 }
 
-/// The rows of these texts are printed as these lines.
+/// Checks that the rows of these texts are printed as these lines.
 fn check_lines(
     rt: &(impl AllocGlobal + Abort),
     texts: &[(&str, &str)],
@@ -44,7 +44,7 @@ fn a_row_that_differs_says_so(rt: HostRuntime) -> Result<(), Fail> {
     check_lines(&rt, &[("x", "y"), ("", "")], false, two)
 }
 
-/// It fails at each write, as a closed pipe does.
+/// A writer that fails at each write, as a closed pipe does.
 #[derive(Drop)]
 struct Closed;
 
@@ -58,7 +58,7 @@ impl Write for Closed {
     }
 }
 
-/// It takes so many bytes, and then none.
+/// A writer that accepts this number of bytes, and then 0 at each write.
 #[derive(Drop)]
 struct Bounded(usize);
 

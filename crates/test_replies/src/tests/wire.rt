@@ -1,4 +1,4 @@
-//! What the codec promises of memory and over time.
+//! The codec's guarantees on memory and on time.
 use redis_wire::{Fault, Limits, Reply, ReplyStream, WireError, append_command};
 use std::alloc::{AllocError, Global};
 use std::test::Fail;
@@ -11,7 +11,7 @@ const LIMITS: Limits = Limits {
     bytes: 64,
 };
 
-/// Whether these bytes, in two pieces, are the reply of this text, unless memory is refused.
+/// Whether these bytes, fed in two pieces, are the reply with this text, unless memory is refused.
 fn agrees(alloc: Global, bytes: &[u8], text: &str) -> Result<bool, WireError> {
     let (front, back) = bytes.split_at(bytes.len() / 2);
     let mut stream = ReplyStream::new(alloc, LIMITS);
@@ -35,7 +35,7 @@ fn format_reply(alloc: Global, reply: &Reply) -> Result<String, AllocError> {
 
 const PING: &[u8] = b"*2\r\n$4\r\nPING\r\n$1\r\n5\r\n";
 
-/// Replies, and how `Debug` shows each.
+/// Replies, and how `Debug` prints each.
 const REPLIES: [(&[u8], &str); 5] = [
     (
         b"*2\r\n:1\r\n$1\r\na\r\n",

@@ -81,7 +81,7 @@ fn groups_are_copied(rt: HostRuntime) -> Result<(), Fail> {
     check_copies::<StreamInfoGroupsReply>(&rt, items)
 }
 
-/// Both records have one printed form.
+/// Checks that both records have the same printed form.
 fn check_same<T: PrintedForm>(
     rt: &(impl AllocGlobal + Abort),
     record: &T,
@@ -147,7 +147,7 @@ impl Copied for StreamInfoGroupsReply {
     }
 }
 
-/// So many items in the notation are read, and a copy of the record has the record's printed form.
+/// Reads `count` items in the notation, and checks that a copy of the record has the record's printed form.
 fn check_copy<T: Copied>(
     rt: &(impl AllocGlobal + Abort),
     items: Line<'_>,
@@ -160,7 +160,7 @@ fn check_copy<T: Copied>(
     check_same(rt, &record, &record.copied(rt.alloc())?)
 }
 
-/// Checks a copy of each number of items.
+/// Checks a copy of the record of each count of items.
 fn check_copies<T: Copied>(rt: &(impl AllocGlobal + Abort), items: Line<'_>) -> Result<(), Fail> {
     for step in 0..67 {
         check_copy::<T>(rt, items, count_of(step))?;

@@ -1,4 +1,4 @@
-//! Values that are nested 20,000 deep: copies, equality, readings and drops.
+//! Values that are nested 20,000 levels deep: copies, equality, readings and drops.
 use redis_resp::{ParsingError, Value, from_redis_value, from_redis_value_ref};
 use redis_streams::StreamRangeReply;
 use std::alloc::{AllocError, Global};
@@ -7,7 +7,7 @@ use std::test::Fail;
 
 const DEPTH: usize = 20_000;
 
-/// The number with so many attributes around it.
+/// The number with 20,000 attributes around it.
 fn attributes(alloc: Global, number: i64) -> Result<Value, AllocError> {
     let mut value = Value::Int(number);
     for _ in 0..DEPTH {
@@ -19,7 +19,7 @@ fn attributes(alloc: Global, number: i64) -> Result<Value, AllocError> {
     Ok(value)
 }
 
-/// The number inside so many arrays of one item.
+/// The number inside 20,000 arrays of one item.
 fn arrays(alloc: Global, number: i64) -> Result<Value, AllocError> {
     let mut value = Value::Int(number);
     for _ in 0..DEPTH {
@@ -28,7 +28,7 @@ fn arrays(alloc: Global, number: i64) -> Result<Value, AllocError> {
     Ok(value)
 }
 
-/// A copy is equal to the value, and not to the other.
+/// Checks that a copy is equal to the value, and not to the other.
 fn check_copy(rt: &(impl AllocGlobal + Abort), value: &Value, other: &Value) -> Result<(), Fail> {
     let copy = value.try_clone(rt.alloc())?;
     assert!(rt; copy == *value);

@@ -1,5 +1,5 @@
-//! Copies of one entry: of up to 64 fields, of 1,000 and of 10,000, and of an id, a name and a value
-//! of as many bytes, with ample memory.
+//! Copies of one entry with up to 64, 1,000 and 10,000 fields, and with an id, a name and a value
+//! of these lengths in bytes, with ample memory.
 use crate::tests::{Line, count_of, line_of};
 use redis_resp::from_redis_value;
 use redis_streams::{StreamId, StreamRangeReply};
@@ -7,7 +7,7 @@ use std::process::Abort;
 use std::test::Fail;
 use test_notation::read_value;
 
-/// The copy of the entry is equal to it, and has as many fields.
+/// Checks that the copy of the entry is equal to it, and has the same number of fields.
 fn check_copy(rt: &(impl AllocGlobal + Abort), entry: &StreamId, count: usize) -> Result<(), Fail> {
     let copy = entry.try_clone(rt.alloc())?;
     assert!(rt;
@@ -18,7 +18,7 @@ fn check_copy(rt: &(impl AllocGlobal + Abort), entry: &StreamId, count: usize) -
     Ok(())
 }
 
-/// The range of so many items in the notation is one entry, and a copy of it is equal to it.
+/// Checks that the range of `count` items in the notation is one entry, and that a copy of it is equal to it.
 fn check_entry(rt: &(impl AllocGlobal + Abort), items: Line<'_>, count: usize) -> Result<(), Fail> {
     let notation = line_of(rt.alloc(), items, count)?;
     let value = read_value(rt.alloc(), notation.as_str())?;
@@ -30,7 +30,7 @@ fn check_entry(rt: &(impl AllocGlobal + Abort), items: Line<'_>, count: usize) -
     Ok(())
 }
 
-/// An entry of each count of these items.
+/// Checks an entry of each count of these items.
 fn check_entries(rt: &(impl AllocGlobal + Abort), items: Line<'_>) -> Result<(), Fail> {
     for step in 0..67 {
         check_entry(rt, items, count_of(step))?;

@@ -10,8 +10,8 @@ use std::process::Abort;
 use std::test::Fail;
 use test_notation::{PrintedForm, read_value};
 
-/// So many items in the notation are read as so many items in the printed form, for up to 64 items,
-/// 1,000 and 10,000; `empty` is the printed form of none.
+/// Checks that a number of items in the notation is printed as the same number of items: up to 64,
+/// 1,000 and 10,000. `empty` is the printed form of no items.
 fn check_many<T: FromRedisValue + PrintedForm>(
     rt: &(impl AllocGlobal + Abort),
     notation: Line<'_>,

@@ -1,4 +1,4 @@
-//! Values that are large: their readings as plain types, and their copies.
+//! Large values: their readings as plain types, and their copies.
 use crate::tests::{Line, line_of};
 use indexmap::IndexMap;
 use redis_resp::{FromRedisValue, from_redis_value, from_redis_value_ref};
@@ -7,7 +7,7 @@ use std::process::Abort;
 use std::test::Fail;
 use test_notation::read_value;
 
-/// Both calls answer this of the value, as `Debug` shows it.
+/// Checks that both calls return this for the value, as `Debug` prints it.
 fn check_shown<T: FromRedisValue + Debug>(
     rt: &(impl AllocGlobal + Abort),
     notation: &str,
@@ -53,7 +53,7 @@ const KINDS: [Line<'static>; 8] = [
     ("Attr(Nil; ", "Int $: Okay", ", ", ")"),
 ];
 
-/// A copy of the value is equal to it.
+/// Checks that a copy of the value is equal to it.
 fn check_copy(rt: &(impl AllocGlobal + Abort), notation: &str) -> Result<(), Fail> {
     let value = read_value(rt.alloc(), notation)?;
     let copy = value.try_clone(rt.alloc())?;

@@ -1,4 +1,4 @@
-//! A type of a user's own, with a grammar of its own: as arguments, and inside lists, options, tables and
+//! A type of a user's own, with its own grammar: as arguments, and inside lists, options, tables and
 //! the fields of entries.
 ghost use Rattle.std.specs.Prelude.{◌≡◌, Bool, [], ◌∷◌, refl};
 ghost use Rattle.redis_resp.specs.Value.{tree};
@@ -38,7 +38,7 @@ impl ToSingleRedisArg for Flag {
     ghost single = { λ _. refl };
 }
 
-/// The flag that a word is.
+/// Parses a word as a flag.
 fn flag_of_word(word: &[u8]) -> Option<bool>
     ensures { result ≡ flag_in word.now }
 {
@@ -51,7 +51,7 @@ fn flag_of_word(word: &[u8]) -> Option<bool>
     }
 }
 
-/// The flag that a value reads as.
+/// Reads a value as a flag.
 fn flag_of(v: &Value) -> Option<bool>
     ensures { result ≡ flag_reading (tree v.now) }
 {
@@ -88,7 +88,7 @@ impl FromRedisValue for Flag {
     }
 }
 
-/// Values, and what each is as a flag: texts of each kind, with attributes, and other values.
+/// Values, and the result of reading each as a flag: texts of each kind, with attributes, and other values.
 const FLAGS: [(&str, &str); 10] = [
     ("yes", "Ok(Flag(true))"),
     ("Simple(no)", "Ok(Flag(false))"),
@@ -110,7 +110,7 @@ fn texts_of_each_kind_are_read_as_flags(rt: HostRuntime) -> Result<(), Fail> {
     Ok(())
 }
 
-/// Values, and what each is as a list of flags.
+/// Values, and the result of reading each as a list of flags.
 const LISTS: [(&str, &str); 5] = [
     (
         "Array[yes, Attr(no), Simple(yes)]",
@@ -143,7 +143,7 @@ fn tables_of_flags_are_read(rt: HostRuntime) -> Result<(), Fail> {
     check_value::<IndexMap<String, Flag>>(&rt, "Map[a: yes, b: no]", shown)
 }
 
-/// The entry of the fields `f`, `yes`; `g`, `on`; `n`, `7`; and `e`, which is nil.
+/// Checks the flags of the entry with the fields `f`, `yes`; `g`, `on`; `n`, `7`; and `e`, which is nil.
 fn check_flags(rt: &(impl AllocGlobal + Abort), entry: &StreamId) -> Result<(), Fail> {
     let flag = entry.get::<Flag>(rt.alloc(), "f")?;
     assert!(rt; matches!(flag, Some(Flag(true))));
@@ -153,7 +153,7 @@ fn check_flags(rt: &(impl AllocGlobal + Abort), entry: &StreamId) -> Result<(), 
     Ok(())
 }
 
-/// The fields of the same entry, as other types.
+/// Checks the fields of the same entry, read as other types.
 fn check_others(rt: &(impl AllocGlobal + Abort), entry: &StreamId) -> Result<(), Fail> {
     assert_eq!(rt; entry.get::<u16>(rt.alloc(), "n")?, Some(7));
     assert_eq!(rt; entry.get::<u16>(rt.alloc(), "h")?, None);
@@ -176,7 +176,7 @@ fn fields_are_read_as_flags(rt: HostRuntime) -> Result<(), Fail> {
     Ok(())
 }
 
-/// The value writes these words as a list, and into a place of a fixed size.
+/// Checks that the value writes these words as a list, and into a buffer of a fixed size.
 fn check_written<T: ToRedisArgs>(
     rt: &(impl AllocGlobal + Abort),
     value: &T,

@@ -1,4 +1,4 @@
-//! Values: which of them differ, and the default value.
+//! Values: which of them are equal, and the default value.
 use redis_resp::Value;
 use std::process::Abort;
 use std::test::Fail;
@@ -25,7 +25,7 @@ const VALUES: [&str; 17] = [
     "Attr(Okay; Okay: Nil)",
 ];
 
-/// The two values are equal where their notations are the same, and only there.
+/// Checks that the two values are equal exactly if their notations are the same.
 fn check_equality(rt: &(impl AllocGlobal + Abort), one: &str, other: &str) -> Result<(), Fail> {
     let first = read_value(rt.alloc(), one)?;
     let second = read_value(rt.alloc(), other)?;

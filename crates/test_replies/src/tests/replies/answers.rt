@@ -1,4 +1,4 @@
-//! Both readings of a value in one line.
+//! The results of both readings of a value in one line.
 ghost use Rattle.std.specs.Prelude.{Bool, true, None, codes};
 
 use redis_resp::{FromRedisValue, ParsingError, Value};
@@ -7,7 +7,7 @@ use std::process::Abort;
 use std::test::Fail;
 use test_notation::{PrintedForm, both_answers};
 
-/// It has no record, and its two readings refuse a value with errors of their own.
+/// A type with no record, whose two readings refuse a value with different errors.
 #[derive(Drop)]
 struct Refused;
 
@@ -35,7 +35,7 @@ impl PrintedForm for Refused {
     }
 }
 
-/// Both readings of the value are told so.
+/// Checks the line that `both_answers` returns for the value.
 fn check_told<T: FromRedisValue + PrintedForm>(
     rt: &(impl AllocGlobal + Abort),
     value: Value,

@@ -1,4 +1,4 @@
-//! Equality of status codes, as a caller can prove of it.
+//! Equality of status codes, as a caller can prove it.
 use redis_streams::laws::{equal_acknowledgements, equal_deletions};
 use redis_streams::{XAckDelStatusCode, XDelExStatusCode};
 
