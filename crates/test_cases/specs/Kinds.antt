@@ -52,7 +52,7 @@ is_number kind =
     else if bytes_eq kind (codes "i64") then true
     else false
 
--- texts, bytes, truth values and values
+-- texts, bytes, booleans and values
 abbrev pub is_single : List ℕ → Bool
 is_single kind =
     if bytes_eq kind (codes "String") then true

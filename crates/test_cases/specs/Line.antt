@@ -1,4 +1,4 @@
--- How the bytes of an answer stand on one line.
+-- How the bytes of an outcome are printed on one line.
 use Rattle.std.specs.Prelude.{ℕ, ◌+◌, ◌/◌, ◌%◌, ◌==◌, List, [], ◌∷◌, ◌++◌, codes, nat_lt, if◌then◌else◌}
 
 -- the code of a hexadecimal digit

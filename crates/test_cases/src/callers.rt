@@ -1,12 +1,12 @@
-//! Cases of the callers of `examples`, and of the file of lines of `worker_journal`.
+//! Cases of the callers of `examples`, and of the line log of `worker_journal`.
 //!
 //! ```text
 //! caller    customer Array[Array[1-0, Array[customer, bob]]]        Some("bob")
 //! ```
 //!
-//! The input is a word that says what is run, and a value in the notation of `test_notation::notation`:
-//! the reply of a server, bytes of a server, or what the call is passed. Commands are printed as
-//! their arguments with a space between two, records as `Debug` shows them.
+//! The input is a word that selects the case, and a value in the notation of `test_notation::notation`:
+//! the reply of a server, bytes of a server, or the argument of the call. Commands are printed as
+//! their arguments with a space between two, records as `Debug` prints them.
 ghost use Rattle.std.specs.Prelude.{ℕ, List, None, IfOk, IsSome, IsTrue};
 ghost use Rattle.test_cases.specs.Kinds.{is_caller};
 
@@ -50,7 +50,7 @@ pub fn outcome(alloc: Global, kind: &str, input: &str) -> Result<Option<String>>
     }
 }
 
-/// What comes of a case.
+/// The outcome of a case.
 fn answer(alloc: Global, case: &str) -> Result<String> {
     match case.split_once(' ') {
         Some((word, notation)) => answer_of(alloc, word, read_value(alloc, notation)?),
@@ -58,7 +58,7 @@ fn answer(alloc: Global, case: &str) -> Result<String> {
     }
 }
 
-/// What comes of the case of this word with this value.
+/// The outcome of the case of this word with this value.
 fn answer_of(alloc: Global, word: &str, value: Value) -> Result<String> {
     match word {
         "worker-reads" => reads(alloc, value),
@@ -98,7 +98,7 @@ fn answer_of(alloc: Global, word: &str, value: Value) -> Result<String> {
     }
 }
 
-// What a producer sends and a server takes in, and types of a user's own.
+// The commands of a producer, the requests that a server parses, and types of a user's own.
 
 /// A producer that sends its ninth entry.
 fn ninth(alloc: Global) -> Result<Producer> {
@@ -106,7 +106,7 @@ fn ninth(alloc: Global) -> Result<Producer> {
     Ok(Producer { id, number: 9 })
 }
 
-/// What a producer sends until each of these replies came, and which of them it takes for an id.
+/// The command that a producer sends before each of these replies, and whether it accepts the reply as an id.
 fn sends(alloc: Global, answers: Value) -> Result<String> {
     let answers: Vec<Value> = from_redis_value(alloc, answers)?;
     let mut producer = ninth(alloc)?;
@@ -117,7 +117,7 @@ fn sends(alloc: Global, answers: Value) -> Result<String> {
     Ok(said)
 }
 
-/// What the producer sends before this reply, and whether the reply is an id.
+/// The command that the producer sends before this reply, and whether it accepts the reply as an id.
 fn send(alloc: Global, producer: &mut Producer, answer: Value) -> Result<String> {
     let sent = producer.arguments(alloc, "jobs", 1000, &[("order", b"17".as_slice())])?;
     let sent = line_of(alloc, &sent)?;
@@ -129,8 +129,8 @@ fn send(alloc: Global, producer: &mut Producer, answer: Value) -> Result<String>
     Ok(format!(in alloc; "{sent} ({is_id}) ")?)
 }
 
-/// What a server reads of that which a producer sends with a body of these bytes: of all that
-/// is after the key, from `~` on, and of the options alone.
+/// The requests that a server parses from the command of a producer with a body of these bytes: from all
+/// arguments after the key, from those from `~` on, and from the options alone.
 fn serves(alloc: Global, body: Value) -> Result<String> {
     let body: RawBytes = from_redis_value(alloc, body)?;
     let producer = ninth(alloc)?;
@@ -146,7 +146,7 @@ fn serves(alloc: Global, body: Value) -> Result<String> {
     Ok(said)
 }
 
-/// What a server reads of arguments.
+/// The request that a server parses from arguments.
 fn serve(alloc: Global, arguments: &[Vec<u8>]) -> Result<String> {
     match add_request(alloc, arguments) {
         Ok(asked) => {
@@ -158,30 +158,30 @@ fn serve(alloc: Global, arguments: &[Vec<u8>]) -> Result<String> {
     }
 }
 
-/// The options of a read for the group of this number.
+/// The options of a read for the group with this number.
 fn group_of(alloc: Global, number: Value) -> Result<String> {
     let number: OrderId = from_redis_value(alloc, number)?;
     let options = StreamReadOptions::default().group(alloc, number, "worker")?;
     line_of(alloc, &options)
 }
 
-/// The arguments of the orders of a list.
+/// The arguments that a list of orders writes.
 fn orders(alloc: Global, list: Value) -> Result<String> {
     let orders: Vec<Order> = from_redis_value(alloc, list)?;
     line_of(alloc, &orders)
 }
 
-/// The order that a value is.
+/// Reads a value as an order.
 fn order(alloc: Global, value: Value) -> Result<String> {
     reading_text(alloc, from_redis_value::<Order>(alloc, value))
 }
 
-/// The number of an order that a value is, if it is not nil.
+/// Reads a value as the number of an order, `None` for nil.
 fn number(alloc: Global, value: Value) -> Result<String> {
     reading_text(alloc, from_redis_value::<Option<OrderId>>(alloc, value))
 }
 
-/// The number that each of three fields of the one entry of a range is.
+/// Reads each of three fields of the one entry of a range as a number.
 fn number_of_entry(alloc: Global, answer: Value) -> Result<String> {
     let reply: StreamRangeReply = from_redis_value(alloc, answer)?;
     let [entry] = reply.ids.as_slice() else {
@@ -204,9 +204,9 @@ fn customer(alloc: Global, answer: Value) -> Result<String> {
     reading_text(alloc, readme::first_customer(alloc, answer))
 }
 
-// What a consumer of a group does.
+// The work of a consumer of a group.
 
-/// With what a worker reads the stream of this name.
+/// The command with which a worker reads the stream of this name.
 fn reads(alloc: Global, key: Value) -> Result<String> {
     let key: String = from_redis_value(alloc, key)?;
     line_of(
@@ -220,7 +220,7 @@ fn ids(alloc: Global, answer: Value) -> Result<String> {
     line_of(alloc, &ids_answered(alloc, answer)?)
 }
 
-/// With what it acknowledges the entries of the one stream of a reply.
+/// The command that acknowledges the entries of the one stream of a reply.
 fn acknowledges(alloc: Global, answer: Value) -> Result<String> {
     let reply: StreamReadReply = from_redis_value(alloc, answer)?;
     match reply.keys.as_slice() {
@@ -229,7 +229,7 @@ fn acknowledges(alloc: Global, answer: Value) -> Result<String> {
     }
 }
 
-/// The orders of the one stream of a reply, and the entries that are none.
+/// The orders of the one stream of a reply, and the entries that are not orders.
 fn batch(alloc: Global, answer: Value) -> Result<String> {
     let reply: StreamReadReply = from_redis_value(alloc, answer)?;
     match reply.keys.as_slice() {
@@ -238,14 +238,14 @@ fn batch(alloc: Global, answer: Value) -> Result<String> {
     }
 }
 
-/// With what entries of the stream of this name are claimed.
+/// The command that claims entries of the stream of this name.
 fn claims(alloc: Global, key: Value) -> Result<String> {
     let key: String = from_redis_value(alloc, key)?;
     let claim = claim_arguments(alloc, &key, "g", "c", 60000, "0-0", 25)?;
     line_of(alloc, &claim)
 }
 
-/// What a reply to XAUTOCLAIM says.
+/// The result of reading a reply to XAUTOCLAIM.
 fn stalled(alloc: Global, answer: Value) -> Result<String> {
     reading_text(alloc, stalled_in(alloc, answer))
 }
@@ -262,7 +262,7 @@ fn lag(alloc: Global, answer: Value) -> Result<String> {
     Ok(format!(in alloc; "{:?} {:?}", lag_of(&groups, "g"), lag_of(&groups, "h"))?)
 }
 
-/// The state of each group in a reply to XINFO STREAM FULL, ten seconds after the clock began.
+/// The state of each group in a reply to XINFO STREAM FULL, at the time of 10,000 milliseconds.
 fn groups(alloc: Global, answer: Value) -> Result<String> {
     let reply: StreamInfoFullReply = from_redis_value(alloc, answer)?;
     let mut states = Vec::new(alloc);
@@ -272,7 +272,7 @@ fn groups(alloc: Global, answer: Value) -> Result<String> {
     Ok(format!(in alloc; "{states:?}")?)
 }
 
-/// Whether a code of XDELEX says that the entry is left.
+/// Whether a code of XDELEX means that the entry is left in the stream.
 fn deletion(alloc: Global, code: Value) -> Result<String> {
     let left = match deletion_of(alloc, code) {
         Ok(status) => Ok(is_left(&status)),
@@ -281,7 +281,7 @@ fn deletion(alloc: Global, code: Value) -> Result<String> {
     reading_text(alloc, left)
 }
 
-/// Whether a code of XACKDEL says that the entry was pending.
+/// Whether a code of XACKDEL means that the entry was pending.
 fn acknowledgement(alloc: Global, code: Value) -> Result<String> {
     let pending = match acknowledgement_of(alloc, code) {
         Ok(status) => Ok(was_pending(&status)),
@@ -290,7 +290,7 @@ fn acknowledgement(alloc: Global, code: Value) -> Result<String> {
     reading_text(alloc, pending)
 }
 
-// Bytes of a server, and bytes for one.
+// Bytes from a server, and bytes for one.
 
 /// The ids of the entries of a reply to XREADGROUP in RESP2, and of one in RESP3.
 fn protocols(alloc: Global, both: Value) -> Result<String> {
@@ -303,7 +303,7 @@ fn protocols(alloc: Global, both: Value) -> Result<String> {
     Ok(format!(in alloc; "{first} = {second}")?)
 }
 
-/// Why bytes give no streams, of a server's error its code, or the streams.
+/// The streams in the bytes of a reply, the code of a server's error, or why there are no streams.
 fn streams(alloc: Global, bytes: Value) -> Result<String> {
     let bytes: RawBytes = from_redis_value(alloc, bytes)?;
     match streams_answered(alloc, &bytes.0) {
@@ -336,9 +336,9 @@ fn order_answered(alloc: Global, bytes: Value) -> Result<String> {
     }
 }
 
-// A file of lines over files in memory, and over one that is too small.
+// A line log over files in memory, and over one that is too small.
 
-/// What a file of these bytes has after it was opened, with and without a last line that has no end.
+/// The content of a file of these bytes after it was opened, whether or not its last line has an end.
 fn repairs(alloc: Global, before: Value) -> Result<String> {
     let before: RawBytes = from_redis_value(alloc, before)?;
     let mut file = MemoryFile::new(alloc, before.0);
@@ -346,7 +346,7 @@ fn repairs(alloc: Global, before: Value) -> Result<String> {
     Ok(format!(in alloc; "{:?}", str::from_utf8(file.bytes())?)?)
 }
 
-/// The last lines of each number, from none to one more than there are, of a file of these bytes.
+/// The last n lines of a file of these bytes, for each n from 0 to one more than there are.
 fn last_lines(alloc: Global, bytes: Value) -> Result<String> {
     let bytes: RawBytes = from_redis_value(alloc, bytes)?;
     let log = LineLog::open(alloc, MemoryFile::new(alloc, bytes.0))?;
@@ -361,7 +361,7 @@ fn last_lines(alloc: Global, bytes: Value) -> Result<String> {
     Ok(shown)
 }
 
-/// The last two lines of each front of these bytes.
+/// The last two lines of each prefix of these bytes.
 fn lines_of_fronts(alloc: Global, bytes: Value) -> Result<String> {
     let bytes: RawBytes = from_redis_value(alloc, bytes)?;
     let mut shown = String::new(alloc);
@@ -376,7 +376,7 @@ fn lines_of_fronts(alloc: Global, bytes: Value) -> Result<String> {
     Ok(shown)
 }
 
-/// Lines, with a space between two.
+/// The lines, with a space between two.
 fn lines_text(alloc: Global, lines: &[Vec<u8>]) -> Result<String> {
     let mut shown = String::new(alloc);
     for line in lines {
@@ -388,7 +388,7 @@ fn lines_text(alloc: Global, lines: &[Vec<u8>]) -> Result<String> {
     Ok(shown)
 }
 
-/// A file that takes so many bytes, and then fails, as a full disk does. Then it has room for ten more.
+/// A file with room for `room` bytes; then it fails, as a full disk does, and gets room for ten more.
 #[derive(Drop)]
 struct Small {
     bytes: Vec<u8>,
@@ -450,8 +450,8 @@ impl LogFile for Small {
     }
 }
 
-/// What a log over a file with room for ten bytes says to each batch of lines; then the file, and how
-/// often it was synced. One write and one sync a batch; after a write that failed the file is cut back first.
+/// The result of committing each batch of lines to a log over a file with room for ten bytes; then the file, and its
+/// count of syncs. A batch takes one write and one sync; after a write that failed, the file is cut back first.
 fn commits(alloc: Global, batches: Value) -> Result<String> {
     let batches: Vec<Vec<RawBytes>> = from_redis_value(alloc, batches)?;
     let file = Small {
@@ -469,7 +469,7 @@ fn commits(alloc: Global, batches: Value) -> Result<String> {
     Ok(format!(in alloc; "{said}{bytes:?} {}", file.syncs)?)
 }
 
-/// Commits the lines of a batch; whether they were taken.
+/// Commits the lines of a batch. Returns whether they were written.
 fn commit<D: LogFile + Drop>(log: &mut LineLog<D>, batch: &[RawBytes]) -> Result<&'static str> {
     for line in batch {
         log.add_line(&line.0)?;
@@ -481,9 +481,9 @@ fn commit<D: LogFile + Drop>(log: &mut LineLog<D>, batch: &[RawBytes]) -> Result
     }
 }
 
-/// A file that takes what is written into a buffer, which a sync writes onto the disk. It notes what a
-/// crash could have left at each moment: fronts of what is in the buffer; and, if its two halves are
-/// written in the other order, zeros in place of the first half.
+/// A file that writes to a buffer, which a sync writes to the disk. It records what a crash at each moment
+/// could have left: each prefix of the bytes of a write; and their second half after zeros, if the halves are
+/// written in the other order.
 #[derive(Drop)]
 struct Buffered {
     alloc: Global,
@@ -492,7 +492,7 @@ struct Buffered {
     crashes: Vec<Crash>,
 }
 
-/// What was on the disk before a write, and what a crash left of it and of the write.
+/// The content of the disk before a write, and what a crash left of it and of the write.
 #[derive(Drop)]
 struct Crash {
     before: Vec<u8>,
@@ -500,7 +500,7 @@ struct Crash {
 }
 
 impl Buffered {
-    /// Notes that a crash could leave these bytes after what is on the disk.
+    /// Records that a crash could leave these bytes after the content of the disk.
     fn note(&mut self, behind: &[u8]) -> Result<(), LogError> {
         let before = self.disk.to_vec(self.alloc)?;
         let mut left = self.disk.to_vec(self.alloc)?;
@@ -508,7 +508,7 @@ impl Buffered {
         Ok(self.crashes.push(Crash { before, left })?)
     }
 
-    /// Notes each front of the bytes, and their second half after zeros.
+    /// Records each prefix of the bytes, and their second half after zeros.
     fn note_all(&mut self, bytes: &[u8]) -> Result<(), LogError> {
         for len in 0..=bytes.len() {
             self.note(bytes.get(..len).unwrap_or(bytes))?;
@@ -563,8 +563,8 @@ impl LogFile for Buffered {
     }
 }
 
-/// How many crashes could come while batches are committed, and of how many of them the file that is
-/// left, once it was opened again, has lost a line that was on the disk.
+/// Counts the crashes that can happen while batches are committed, and those that lose a line: the file that
+/// is left, once opened again, no longer has a line that was on the disk.
 fn crashes(alloc: Global, batches: Value) -> Result<String> {
     let batches: Vec<Vec<RawBytes>> = from_redis_value(alloc, batches)?;
     let file = Buffered {
@@ -592,11 +592,11 @@ fn crashes(alloc: Global, batches: Value) -> Result<String> {
     Ok(format!(in alloc; "{} crashes, {lost} lost a line", file.crashes.len())?)
 }
 
-/// What a log over a file that tears says to each batch of lines, if the sync of a number fails, the
-/// first of which is that of its opening; then the file after two crashes.
+/// The result of committing each batch of lines to a log over a torn file, if the sync with a given number
+/// fails, counting that of the opening as the first; then the file after two crashes.
 ///
-/// The first crash leaves these bytes for those that were not synced. The second comes while the file is
-/// opened again, and leaves so many of the bytes that were cut off. Then it is opened once more.
+/// The first crash leaves these bytes in place of those that were not synced. The second happens while the
+/// file is opened again, and leaves `uncut` of the bytes that were cut off. Then it is opened once more.
 fn tears(alloc: Global, case: Value) -> Result<String> {
     type Case = (Vec<Vec<RawBytes>>, (usize, usize), RawBytes);
     let (batches, (failing, uncut), behind): Case = from_redis_value(alloc, case)?;
@@ -619,7 +619,7 @@ fn tears(alloc: Global, case: Value) -> Result<String> {
     Ok(format!(in alloc; "{said}{:?}", str::from_utf8(file.on_disk())?)?)
 }
 
-/// A worker's file of these bytes, once it was opened and these lines were committed, by the calls that bind a
+/// A worker's file of these bytes, after it was opened and these lines were committed, by the calls that bind a
 /// log to the model of the files.
 fn files(alloc: Global, case: Value) -> Result<String> {
     let (before, lines): (RawBytes, Vec<RawBytes>) = from_redis_value(alloc, case)?;
@@ -631,7 +631,7 @@ fn files(alloc: Global, case: Value) -> Result<String> {
     Ok(format!(in alloc; "{:?}", str::from_utf8(log.into_file().bytes())?)?)
 }
 
-/// The bytes of a text as they are in a line.
+/// The bytes of a text as they are escaped in a line.
 fn escapes(alloc: Global, text: Value) -> Result<String> {
     let text: RawBytes = from_redis_value(alloc, text)?;
     let mut line = Vec::new(alloc);
@@ -653,7 +653,7 @@ fn line(alloc: Global, line: Value) -> Result<String> {
     Ok(shown)
 }
 
-// How what came of a case is printed.
+// How the outcome of a case is printed.
 
 /// The arguments that a value writes, with a space between two.
 fn line_of<T: ToRedisArgs>(alloc: Global, value: &T) -> Result<String> {
@@ -667,7 +667,7 @@ fn line_of<T: ToRedisArgs>(alloc: Global, value: &T) -> Result<String> {
     Ok(line)
 }
 
-/// A record as `Debug` shows it, or why there is none; memory that ran out is no such reason.
+/// A record as `Debug` prints it, or why there is none. Passes on the error that memory ran out.
 fn reading_text<T: Debug + Drop>(alloc: Global, read: Result<T, ParsingError>) -> Result<String> {
     match read {
         Ok(record) => Ok(format!(in alloc; "{record:?}")?),

@@ -10,7 +10,7 @@
 //! shards           42 2a310d0a25320d0a..          none | 0-9 50-99 master 10.0.0.1:6379
 //! ```
 //!
-//! The stored slots of the first two kinds are those that redis-server told; partitions are those of
+//! The stored slots of the first two kinds are those that redis-server returned; partitions are those of
 //! another implementation of the checksum. The last two kinds have a slot and a reply in hex digits: the
 //! outcome is the master of the slot, and each shard. Most of their replies came from redis-server.
 
@@ -68,7 +68,7 @@ fn slot_of_hex(alloc: Global, input: &str) -> Result<String> {
     }
 }
 
-/// What an error says, and what it asks for.
+/// The fields of an error, and the next step after it.
 fn error_text(alloc: Global, text: &str) -> Result<String> {
     let Some(error) = cluster_error(text.as_bytes()) else {
         return Ok(String::from_str(alloc, "none of these")?);
@@ -109,14 +109,14 @@ fn step_word(step: NextStep) -> &'static str {
     }
 }
 
-/// The number at the head of a text, and what is after the blank after it.
+/// Parses the number before the first blank of a text, and returns it and the rest.
 fn number_and_rest(input: &str) -> Option<(u16, &str)> {
     let (number, rest) = input.split_once(' ')?;
     let number = number.parse::<u16>().ok()?;
     Some((number, rest))
 }
 
-/// The partition of the key after the number of partitions.
+/// The partition of a key; the input is the number of partitions, a blank and the key.
 fn partition_text(alloc: Global, input: &str) -> Result<String> {
     match number_and_rest(input) {
         Some((number, key)) => match NonZeroU16::new(number) {
@@ -130,7 +130,7 @@ fn partition_text(alloc: Global, input: &str) -> Result<String> {
     }
 }
 
-/// The key of the partition of a stream, and its slot.
+/// The key of a partition of a stream, and its slot.
 fn partition_name_text(alloc: Global, input: &str) -> Result<String> {
     match number_and_rest(input) {
         Some((partition, name)) => {
@@ -143,14 +143,14 @@ fn partition_name_text(alloc: Global, input: &str) -> Result<String> {
     }
 }
 
-/// Which command the reply is of.
+/// The command that the reply belongs to.
 #[derive(Clone, Copy)]
 enum Asked {
     Slots,
     Shards,
 }
 
-/// The master of a slot, and the shards, of a reply in hex digits: its text after the slot and a blank.
+/// The master of a slot, and the shards, from a reply in hex digits; the input is the slot, a blank and the digits.
 fn topology_of(alloc: Global, asked: Asked, input: &str) -> Result<String> {
     let Some((slot, digits)) = input.split_once(' ') else {
         return Ok(String::from_str(alloc, "no slot")?);
@@ -172,7 +172,7 @@ fn topology_of(alloc: Global, asked: Asked, input: &str) -> Result<String> {
     }
 }
 
-/// The value of a reply in hex digits.
+/// Decodes a reply in hex digits as a value.
 fn value_of_hex(alloc: Global, digits: &str) -> Result<Option<Value>> {
     let bytes = match hex::decode(alloc, digits) {
         Ok(bytes) => bytes,
@@ -188,7 +188,7 @@ fn value_of_hex(alloc: Global, digits: &str) -> Result<Option<Value>> {
     }
 }
 
-/// The master of the slot, and the shards.
+/// The master of the slot, and the shards, as text.
 fn topology_text(alloc: Global, topology: &Topology, slot: u16) -> Result<String> {
     let mut text = match topology.master_of(slot) {
         Some(node) => place_text(alloc, node)?,
@@ -201,7 +201,7 @@ fn topology_text(alloc: Global, topology: &Topology, slot: u16) -> Result<String
     Ok(text)
 }
 
-/// Adds the ranges and the nodes of a shard.
+/// Appends the ranges and the nodes of a shard.
 fn push_shard(alloc: Global, text: &mut String, shard: &Shard) -> Result<()> {
     for range in &shard.ranges {
         let (first, last) = (range.first, range.last);

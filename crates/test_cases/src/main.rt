@@ -1,7 +1,7 @@
 //! Reads cases from standard input, one a line, and prints each with its outcome.
 //!
-//! A line is `KIND<tab>INPUT<tab>OUTCOME`. What follows the second tab of a line that is read is left
-//! out, so what was printed can be read again. Control characters of an outcome are printed as `\n`,
+//! A line is `KIND<tab>INPUT<tab>OUTCOME`. What follows the second tab of an input line is ignored,
+//! so that printed lines can be read again. Control characters of an outcome are printed as `\n`,
 //! `\t` or `\xNN`.
 //!
 //! ```text
@@ -12,7 +12,7 @@
 //! The kinds are those of the modules `replies`, `readings`, `notation`, `wire`, `refs`, `cluster` and `callers`.
 //! Another implementation can be compared line by line.
 //!
-//! It ends with 0, or with 2 if memory ran out, a line of `callers` is no case, or standard input or output failed.
+//! It exits with 0, or with 2 if memory ran out, a line of `callers` is not a case, or standard input or output failed.
 #![tactic(auto)]
 
 ghost use Rattle.std.specs.Prelude.{◌≡◌, ◌==◌, ◌<◌, IfSome};
@@ -39,7 +39,7 @@ use test_notation::{NotationError, PrintedForm, read_value};
 /// Memory ran out, or standard input or output failed.
 const FAILED: u8 = 2;
 
-/// What is said of bytes that end before their reply does.
+/// The outcome of bytes that end before their reply does.
 const INCOMPLETE: &str = "incomplete";
 
 fn main(rt: HostRuntime) -> ExitCode {
@@ -66,7 +66,7 @@ fn print_outcomes<R: Input + Print + AllocGlobal>(rt: &R) -> Result<()> {
     Ok(())
 }
 
-/// What is before the first tab, and what is after it.
+/// Returns the text before the first tab, and the text after it.
 fn split_at_tab(line: &str) -> (&str, &str)
     ensures before { result.0.now ≡ before_first (λ b. b == 9) line.now }
     ensures after { result.1.now ≡ after_first (λ b. b == 9) line.now }
@@ -100,7 +100,7 @@ fn outcome(alloc: Global, kind: &str, input: &str) -> Result<String> {
     }
 }
 
-/// The outcome of a case whose input is bytes as text, if its kind is one of those.
+/// The outcome of a case whose input is escaped bytes, if its kind has such an input.
 fn outcome_of_bytes(alloc: Global, kind: &str, input: &str) -> Result<Option<String>, AllocError> {
     match wire::outcome(alloc, kind, input)? {
         Some(text) => Ok(Some(text)),
@@ -108,9 +108,9 @@ fn outcome_of_bytes(alloc: Global, kind: &str, input: &str) -> Result<Option<Str
     }
 }
 
-// What several modules share: outcomes of values, of refusals, and of two calls on one value.
+// Shared by several modules: outcomes of values, of refusals, and of two calls on one value.
 
-/// The value that a text is, or the outcome of a text that is none.
+/// Parses a text as a value. A text that is not a value has an outcome instead.
 fn value_of(alloc: Global, input: &str) -> Result<Result<Value, String>, AllocError> {
     match read_value(alloc, input) {
         Ok(value) => Ok(Ok(value)),
@@ -119,7 +119,7 @@ fn value_of(alloc: Global, input: &str) -> Result<Result<Value, String>, AllocEr
     }
 }
 
-/// A refusal: its number, and as `Debug` and as `Display` print it. That memory ran out is no outcome,
+/// A refusal: its number, and its `Debug` and `Display` forms. The error that memory ran out is no outcome,
 /// and is passed on.
 fn refusal_text(alloc: Global, error: &ParsingError) -> Result<String, AllocError> {
     match error {
@@ -149,7 +149,7 @@ fn text_of_both(
     Ok(text)
 }
 
-/// The fault that refuses bytes. That memory ran out says nothing of them.
+/// The fault that refuses bytes. Passes on the error that memory ran out.
 fn fault_text(alloc: Global, error: WireError) -> Result<String, AllocError> {
     match error {
         WireError::Memory => Err(AllocError),
@@ -157,9 +157,9 @@ fn fault_text(alloc: Global, error: WireError) -> Result<String, AllocError> {
     }
 }
 
-// Bytes as text that a person can read.
+// Bytes as readable text.
 
-/// The bytes that a text spells: `\r`, `\n`, `\t`, `\\` and `\xNN` are one byte each, and every other
+/// Decodes the escapes of a text: `\r`, `\n`, `\t`, `\\` and `\xNN` are one byte each, and every other
 /// byte is itself. `None` if a backslash begins none of these.
 fn bytes_of(alloc: Global, text: &str) -> Result<Option<Vec<u8>>, AllocError> {
     let mut bytes = Vec::with_capacity(alloc, text.len())?;
@@ -174,7 +174,7 @@ fn bytes_of(alloc: Global, text: &str) -> Result<Option<Vec<u8>>, AllocError> {
     Ok(if rest.is_empty() { Some(bytes) } else { None })
 }
 
-/// The byte that a text begins with, and what is after it.
+/// The first byte of a text, with its escape decoded, and the rest.
 fn byte_in(text: &[u8]) -> Option<(u8, &[u8])> {
     match text {
         [b'\\', rest @ ..] => escape_in(rest),
@@ -183,7 +183,7 @@ fn byte_in(text: &[u8]) -> Option<(u8, &[u8])> {
     }
 }
 
-/// The byte that is spelled after a backslash, and what is after it.
+/// The byte of the escape after a backslash, and the rest.
 fn escape_in(text: &[u8]) -> Option<(u8, &[u8])> {
     match text {
         [b'r', rest @ ..] => Some((b'\r', rest)),

@@ -1,11 +1,11 @@
-//! Texts in the notation of values, and what is read from them.
+//! Texts in the notation of values, and what they are read as.
 //!
 //! | Kind | Outcome |
 //! |---|---|
 //! | `notation` | the value as `Debug` prints it |
 //! | `reads_as` | whether the value is read as a text, as a `usize` and as fields, and whether it is nil |
 //!
-//! A text that is no value has the cause as its outcome, here and for each kind that reads a value.
+//! The outcome of a text that is not a value is the cause, here and for each kind that reads a value.
 ghost use Rattle.test_cases.specs.Kinds.{is_notation};
 ghost use Rattle.std.specs.Prelude.{IfOk, IsSome, IsTrue};
 
@@ -32,7 +32,7 @@ fn value_text(alloc: Global, input: &str) -> Result<Option<String>, AllocError> 
     }
 }
 
-/// What is told of the value without memory.
+/// The checks of a value that take no memory.
 fn told_text(alloc: Global, input: &str) -> Result<Option<String>, AllocError> {
     match value_of(alloc, input)? {
         Ok(value) => Ok(Some(format!(in alloc;

@@ -50,7 +50,7 @@ fn number(alloc: Global, kind: &str, input: &str) -> Result<Option<String>, Allo
     }
 }
 
-/// Texts, bytes, truth values and values as they are.
+/// Texts, bytes, booleans and values as they are.
 fn single(alloc: Global, kind: &str, input: &str) -> Result<Option<String>, AllocError>
     ensures { IfOk result (λ o. IsSome o → IsTrue (is_single kind.now)) }
 {
@@ -119,7 +119,7 @@ fn table(alloc: Global, kind: &str, input: &str) -> Result<Option<String>, Alloc
     }
 }
 
-/// What both calls read from the value, by value and borrowed.
+/// Reads the value by both calls, by value and borrowed.
 fn read_both<T: FromRedisValue + Debug>(
     alloc: Global,
     input: &str,

@@ -8,12 +8,12 @@
 //! | `refs-justid` | a reply of XAUTOCLAIM with JUSTID |
 //! | `refs-fields` | a reply of XRANGE: the fields of each entry, as numbers and as text |
 //! | `id` | an id: its parts, and the texts that they write |
-//! | `ids` | ids with a space between each two: of each one, before which of them it is |
+//! | `ids` | ids with a space between each two: for each one, which of them it is before |
 //!
-//! What is read in place is printed as `Debug` shows it. A reply of another shape is `copied`, `refused`
-//! or `error`, after its length; bytes that are none are `incomplete` or refused by a fault. If the record
-//! of what is read in place is not that of the copying path, the outcome says so; also if neither has a
-//! record, since a name of a field is no text.
+//! What is read in place is printed as `Debug` prints it. A reply of another shape is `copied`, `refused`
+//! or `error`, after its length; bytes that are no reply are `incomplete` or refused by a fault. If the record
+//! of what is read in place is not that of the copying path, the outcome reports it; also if neither has a
+//! record, since a name of a field is not a text.
 ghost use Rattle.test_cases.specs.Kinds.{is_refs};
 ghost use Rattle.std.specs.Prelude.{◌≡◌, IfOk, IsSome, IsTrue};
 
@@ -68,7 +68,7 @@ fn outcome_of(alloc: Global, kind: &str, bytes: &[u8]) -> Result<String, AllocEr
     }
 }
 
-// What reading a reply in place comes to.
+// The results of reading a reply in place.
 
 /// The outcome of a range.
 fn of_range(alloc: Global, tape: &mut EntryTape, bytes: &[u8]) -> Result<String, AllocError> {
@@ -160,7 +160,7 @@ fn of_justid(alloc: Global, tape: &mut EntryTape, bytes: &[u8]) -> Result<String
     }
 }
 
-/// What is read in place, and what the copying path has of it, if that is not the same record.
+/// What is read in place, and the result of the copying path, if that is not the same record.
 fn in_place<F: Debug>(alloc: Global, found: &F, beside: Beside) -> Result<String, AllocError> {
     let mut text = format!(in alloc; "in place {found:?}")?;
     text.push_str(match beside {
@@ -171,8 +171,8 @@ fn in_place<F: Debug>(alloc: Global, found: &F, beside: Beside) -> Result<String
     Ok(text)
 }
 
-/// A reply of another shape: whether it has a record, was refused, or has an error in it. That memory ran
-/// out says nothing of it.
+/// A reply of another shape: whether it has a record, was refused, or has an error in it. Passes on the
+/// error that memory ran out.
 fn copied_text<T: Drop>(
     alloc: Global,
     len: usize,
@@ -188,23 +188,23 @@ fn copied_text<T: Drop>(
 
 // Whether what is read in place has the record of the copying path.
 
-/// What is read in place, beside the copying path.
+/// How what is read in place compares with the copying path.
 #[derive(Clone, Copy)]
 enum Beside {
     /// Both have the same record.
     Same,
-    /// Neither has a record, since a name of a field is no text.
+    /// Neither has a record, since a name of a field is not a text.
     BothRefused,
     /// They differ.
     Differs,
 }
 
-/// What two records are that may be the same.
+/// How two records compare, by whether they are the same.
 fn beside_of(same: bool) -> Beside {
     if same { Beside::Same } else { Beside::Differs }
 }
 
-/// The record of what is read in place, or none if a name is no text.
+/// The record of what is read in place, or `None` if a name is not a text.
 fn record_of<T: Drop>(record: Result<T, ParsingError>) -> Result<Option<T>, AllocError> {
     match record {
         Ok(record) => Ok(Some(record)),
@@ -237,7 +237,7 @@ fn is_same_justid(one: &StreamAutoClaimJustIdReply, other: &StreamAutoClaimJustI
         && one.deleted_ids == other.deleted_ids
 }
 
-/// Whether streams are the same, each as the one at its place.
+/// Whether streams are the same, each as the one at its index.
 fn are_same(some: &[StreamKey], others: &[StreamKey]) -> bool {
     for (one, other) in some.iter().zip(others) {
         if one.key != other.key || one.ids != other.ids {
@@ -247,18 +247,18 @@ fn are_same(some: &[StreamKey], others: &[StreamKey]) -> bool {
     true
 }
 
-/// What the copying path has of a reply.
+/// The result of the copying path for a reply.
 #[derive(Drop)]
 enum Copied<T> {
     /// The record.
     Record(T),
     /// No record.
     Refused,
-    /// The bytes are no reply, or one of another length.
+    /// The bytes are not a reply, or the reply has another length.
     Other,
 }
 
-/// What the copying path has of the reply at the head of bytes, if the reply has this length.
+/// The result of the copying path for the reply at the start of bytes, if the reply has this length.
 fn copied_record<T: FromRedisValue + Drop>(
     alloc: Global,
     bytes: &[u8],
@@ -277,7 +277,7 @@ fn copied_record<T: FromRedisValue + Drop>(
     }
 }
 
-/// What the copying path has of a decoded reply.
+/// The result of the copying path for a decoded reply.
 fn copied_of<T: FromRedisValue + Drop>(
     alloc: Global,
     reply: Reply,
@@ -291,7 +291,7 @@ fn copied_of<T: FromRedisValue + Drop>(
 
 // The fields of entries in place.
 
-/// The fields of each entry, or `none` if the reply has not the shape that servers send.
+/// The fields of each entry, or `none` if the reply does not have the shape that servers send.
 fn fields_text(alloc: Global, tape: &mut EntryTape, bytes: &[u8]) -> Result<String, AllocError> {
     let mut text = String::new(alloc);
     match tape.read_range(bytes, Limits::default())? {
@@ -305,8 +305,8 @@ fn fields_text(alloc: Global, tape: &mut EntryTape, bytes: &[u8]) -> Result<Stri
     Ok(text)
 }
 
-/// Adds an entry: how many fields it has, their copies in order, and what each is read as; last what a
-/// field is read as that is not there.
+/// Appends an entry: its count of fields, their copies in order, and the readings of each; last the readings
+/// of a field that is missing.
 fn add_entry(alloc: Global, text: &mut String, entry: &EntryRef<'_>) -> Result<(), AllocError> {
     let fields = entry.fields();
     let count = fields.len();
@@ -321,7 +321,7 @@ fn add_entry(alloc: Global, text: &mut String, entry: &EntryRef<'_>) -> Result<(
     text.push(';')
 }
 
-/// Adds what the field of a name is read as: as a `u64`, as an `i64` and as text.
+/// Appends the readings of the field of a name: as a `u64`, as an `i64` and as text.
 fn add_field(text: &mut String, entry: &EntryRef<'_>, name: &[u8]) -> Result<(), AllocError> {
     let shown = BStr::new(name);
     let unsigned = entry.get_u64(name);
@@ -338,8 +338,8 @@ fn add_field(text: &mut String, entry: &EntryRef<'_>, name: &[u8]) -> Result<(),
 
 // Ids in their parts.
 
-/// The parts of an id, the text that they write, and the text that leaves the id out; `none` if the bytes
-/// are no id.
+/// The parts of an id, its text, and its text as an exclusive bound; `none` if the bytes
+/// are not an id.
 fn parts_text(alloc: Global, bytes: &[u8]) -> Result<String, AllocError> {
     match StreamIdParts::parse(bytes) {
         Some(id) => id_text(alloc, id),
@@ -356,7 +356,7 @@ fn id_text(alloc: Global, id: StreamIdParts) -> Result<String, AllocError> {
     format!(in alloc; "{id:?} {text} {exclusive}")
 }
 
-/// Of each id a mark for each one: `<` if it is before that one, and `-` if it is not.
+/// For each id a mark for each of the ids: `<` if it is before that one, and `-` if it is not.
 fn marks_text(alloc: Global, words: &[u8]) -> Result<String, AllocError> {
     let mut ids = Vec::new(alloc);
     for word in words.split(|byte| *byte == b' ') {
@@ -371,7 +371,7 @@ fn marks_text(alloc: Global, words: &[u8]) -> Result<String, AllocError> {
     Ok(text)
 }
 
-/// Adds the marks of an id.
+/// Appends the marks of an id.
 fn add_marks(
     text: &mut String,
     id: StreamIdParts,

@@ -85,7 +85,7 @@ fn other(alloc: Global, kind: &str, input: &str) -> Result<Option<String>, Alloc
     }
 }
 
-/// The forms of a read that the value has.
+/// The forms of a read reply that the value has.
 fn forms(alloc: Global, input: &str) -> Result<Option<String>, AllocError> {
     match value_of(alloc, input)? {
         Ok(value) => {
@@ -96,7 +96,7 @@ fn forms(alloc: Global, input: &str) -> Result<Option<String>, AllocError> {
     }
 }
 
-/// A summary of pending entries: the printed form, and what `Debug` prints; a refusal once.
+/// A summary of pending entries: the printed form, and the `Debug` form; a refusal is printed once.
 fn pending(alloc: Global, input: &str) -> Result<Option<String>, AllocError> {
     let Some(printed) = read_printed::<StreamPendingReply>(alloc, input)? else {
         return Ok(None);
@@ -111,7 +111,7 @@ fn pending(alloc: Global, input: &str) -> Result<Option<String>, AllocError> {
     }
 }
 
-/// What both calls read from the value, by value and borrowed, in its printed form.
+/// The results of both calls on the value, by value and borrowed, in their printed form.
 fn read_printed<T: Record + PrintedForm>(
     alloc: Global,
     input: &str,
@@ -139,7 +139,7 @@ fn printed_answer<T: Record + PrintedForm>(
     }
 }
 
-/// The printed form of the record, and that of a copy too if it is another.
+/// The printed form of the record, and that of a copy too if it differs.
 fn printed_text<T: Record + PrintedForm>(alloc: Global, record: &T) -> Result<String, AllocError> {
     let text = record.printed(alloc)?;
     let Some(copy) = record.copy(alloc)? else {
@@ -149,7 +149,7 @@ fn printed_text<T: Record + PrintedForm>(alloc: Global, record: &T) -> Result<St
     with_copy(alloc, text, &copied)
 }
 
-/// What both calls read from the value, by value and borrowed, as `Debug` prints it.
+/// The results of both calls on the value, by value and borrowed, as `Debug` prints them.
 fn read_shown<T: Record + Debug>(alloc: Global, input: &str) -> Result<Option<String>, AllocError> {
     let value = match value_of(alloc, input)? {
         Ok(value) => value,
@@ -184,7 +184,7 @@ fn shown_text<T: Record + Debug>(alloc: Global, record: &T) -> Result<String, Al
     with_copy(alloc, text, &copied)
 }
 
-/// The text of a record, and that of its copy too if it is another.
+/// The text of a record, and that of its copy too if it differs.
 fn with_copy(alloc: Global, text: String, copied: &str) -> Result<String, AllocError> {
     if copied == text.as_str() {
         Ok(text)

@@ -1,18 +1,18 @@
-//! Bytes of a server, read in every way that there is.
+//! Bytes of a server, read in every way there is.
 //!
 //! | Kind | Input and outcome |
 //! |---|---|
-//! | `wire` | bytes: the reply at their head, after its length, `incomplete`, or the fault that refuses them |
+//! | `wire` | bytes: the reply at their start, after its length, `incomplete`, or the fault that refuses them |
 //! | `limited` | the same with small limits |
-//! | `decoded` | the same as `wire`, of fewer ways: for tools, which try many |
-//! | `pieces` | replies, one after the other: how many there are, and what is after them |
+//! | `decoded` | the same as `wire`, in fewer ways: for tools, which try many |
+//! | `pieces` | replies, one after the other: their count, and the count of bytes after them |
 //! | `nodes` | a reply: its nodes in place |
 //! | `reply-text`, `reply-texts`, `reply-number` | a reply: the record that it is read as, or the caller's error |
 //! | `pack` | words: the bytes of a command with these arguments |
 //!
-//! Bytes are decoded whole, come through a stream byte by byte (so far also for `decoded`) and cut in two
-//! at each place, where they are taken out as values and in place, and each front of them is listed as
-//! nodes. If one of these ways does not find what decoding finds, the outcome says so.
+//! Bytes are decoded whole, and are fed to a stream byte by byte (`decoded` does only this) and cut in two
+//! at each offset. The replies are taken out as values and in place, and each prefix of the bytes is listed
+//! as nodes. If one of these ways does not find what decoding finds, the outcome reports it.
 ghost use Rattle.test_cases.specs.Kinds.{is_wire};
 ghost use Rattle.std.specs.Prelude.{◌≡◌, IfOk, IsSome, IsTrue};
 
@@ -28,7 +28,7 @@ use redis_wire::{
 use std::alloc::{AllocError, Global};
 use std::fmt::Debug;
 
-/// Limits that small replies meet.
+/// Limits that small replies reach.
 const SMALL: Limits = Limits {
     depth: 4,
     length: 1000,
@@ -83,17 +83,17 @@ fn outcome_of(alloc: Global, kind: &str, bytes: &[u8]) -> Result<String, AllocEr
     }
 }
 
-// The ways to read a reply at the head of bytes.
+// The ways to read a reply at the start of bytes.
 
-/// How bytes are cut: how many are in the first piece, and in each one after it.
+/// How bytes are cut: the length of the first piece, and of each one after it.
 #[derive(Clone, Copy)]
 struct Cut {
     first: usize,
     next: usize,
 }
 
-/// What decoding says of bytes, and after it what a stream says of them byte by byte, if it is something
-/// else.
+/// The outcome of decoding bytes, and after it that of a stream which is fed them byte by byte, if it
+/// differs.
 fn one_by_one(alloc: Global, limits: Limits, bytes: &[u8]) -> Result<String, AllocError> {
     let told = decoded(alloc, limits, bytes)?;
     let mut outcome = told.clone()?;
@@ -102,8 +102,8 @@ fn one_by_one(alloc: Global, limits: Limits, bytes: &[u8]) -> Result<String, All
     Ok(outcome)
 }
 
-/// What `one_by_one` says, and what each way says of the bytes cut in two and of each front of them, if it
-/// is something else.
+/// The outcome of `one_by_one`, and that of each way for the bytes cut in two and for each prefix of them, if
+/// it differs.
 fn compared_ways(alloc: Global, limits: Limits, bytes: &[u8]) -> Result<String, AllocError> {
     let told = decoded(alloc, limits, bytes)?;
     let mut outcome = one_by_one(alloc, limits, bytes)?;
@@ -121,7 +121,7 @@ fn compared_ways(alloc: Global, limits: Limits, bytes: &[u8]) -> Result<String, 
     Ok(outcome)
 }
 
-/// Adds what streams and nodes say of a front of the bytes, if decoding it says something else.
+/// Appends the outcomes of streams and nodes for a prefix of the bytes, if decoding has another one.
 fn add_front(
     alloc: Global,
     limits: Limits,
@@ -138,8 +138,8 @@ fn add_front(
     add_other_way(outcome, &told, &other, "as nodes")
 }
 
-/// Adds what a stream says of bytes that come in pieces, as a value and in place, if it is something
-/// else.
+/// Appends the outcome of a stream that is fed the bytes in pieces, as a value and in place, if it
+/// differs.
 fn add_streams(
     alloc: Global,
     limits: Limits,
@@ -154,7 +154,7 @@ fn add_streams(
     add_other_way(outcome, told, &other, "in place")
 }
 
-/// Adds what another way says, if it is something else. A text that ends in a space says the length of a
+/// Appends the outcome of another way, if it differs. A text that ends in a space is the length of a
 /// reply alone.
 fn add_other_way(
     outcome: &mut String,
@@ -168,7 +168,7 @@ fn add_other_way(
     write!(outcome, "; {way}: {other}")
 }
 
-/// What decoding says of the reply at the head of bytes.
+/// The outcome of decoding the reply at the start of bytes.
 fn decoded(alloc: Global, limits: Limits, bytes: &[u8]) -> Result<String, AllocError> {
     match decode(alloc, bytes, limits) {
         Ok(Decoded::Complete { reply, len }) => reply_text(alloc, len, &reply),
@@ -177,12 +177,12 @@ fn decoded(alloc: Global, limits: Limits, bytes: &[u8]) -> Result<String, AllocE
     }
 }
 
-/// A reply after its length.
+/// The length of a reply and the reply.
 fn reply_text(alloc: Global, len: usize, reply: &Reply) -> Result<String, AllocError> {
     format!(in alloc; "{len} {reply:?}")
 }
 
-/// What a stream says of bytes that come in pieces, with the first piece after which it says something.
+/// The outcome of a stream that is fed bytes in pieces, after the first piece that gives another one than `incomplete`.
 fn streamed(
     alloc: Global,
     limits: Limits,
@@ -209,7 +209,7 @@ fn streamed(
     String::from_str(alloc, INCOMPLETE)
 }
 
-/// What a stream says of the reply at its head. It was fed so many of the bytes.
+/// The outcome of a stream for its first reply, after it was fed `fed` of the bytes.
 fn head_text(
     alloc: Global,
     stream: &mut ReplyStream,
@@ -225,7 +225,7 @@ fn head_text(
     }
 }
 
-/// What a stream that holds so many bytes says of the reply at its head, as a value.
+/// The outcome of taking the first reply as a value out of a stream that holds `held` bytes.
 fn next_text(alloc: Global, stream: &mut ReplyStream, held: usize) -> Result<String, AllocError> {
     match stream.next(alloc) {
         Ok(Some(reply)) => reply_text(alloc, held.saturating_sub(stream.held()), &reply),
@@ -234,8 +234,8 @@ fn next_text(alloc: Global, stream: &mut ReplyStream, held: usize) -> Result<Str
     }
 }
 
-/// What a stream that was fed these bytes says of the reply at its head, in place: its length and a space,
-/// if all of them are held, and those after it once it is given out.
+/// The outcome of taking the first reply in place out of a stream that was fed these bytes: its length and a
+/// space, if the stream holds all of them, and those after the reply once it is removed.
 fn place_text(alloc: Global, stream: &mut ReplyStream, fed: &[u8]) -> Result<String, AllocError> {
     if stream.bytes() != fed {
         return String::from_str(alloc, "other bytes are held");
@@ -256,15 +256,15 @@ fn place_text(alloc: Global, stream: &mut ReplyStream, fed: &[u8]) -> Result<Str
     }
 }
 
-// Replies that come one after the other, in pieces of several sizes.
+// Replies one after the other, in pieces of several sizes.
 
-/// The sizes of pieces that are tried: single bytes, some, and a packet of a network.
+/// The sizes of pieces that are tried: one byte, a few, and a network packet.
 const SIZES: [usize; 3] = [1, 7, 1448];
 
-/// Of so many bytes each size is tried.
+/// Up to this number of bytes, each size is tried.
 const FEW: usize = 100;
 
-/// How replies are taken out of a stream: in place or as values, and if the two alternate.
+/// How replies are taken out of a stream: in place or as values, and whether the two alternate.
 #[derive(Clone, Copy)]
 struct Way {
     in_place: bool,
@@ -287,8 +287,8 @@ const WAYS: [Way; 3] = [
     },
 ];
 
-/// How many replies there are, and how many bytes are after them; then each size of pieces in which a
-/// stream finds others.
+/// The count of replies, and of the bytes after them; then each size of pieces in which a
+/// stream finds other replies.
 fn pieces_text(alloc: Global, bytes: &[u8]) -> Result<String, AllocError> {
     let mut told = String::new(alloc);
     let mut outcome = all_replies(alloc, bytes, &mut told)?;
@@ -303,7 +303,7 @@ fn pieces_text(alloc: Global, bytes: &[u8]) -> Result<String, AllocError> {
     Ok(outcome)
 }
 
-/// Adds a size of pieces, if a stream finds other replies in one of the ways.
+/// Appends a size of pieces, if a stream finds other replies in one of the ways.
 fn add_other_pieces(
     alloc: Global,
     bytes: &[u8],
@@ -320,7 +320,7 @@ fn add_other_pieces(
     Ok(())
 }
 
-/// How many replies there are, and how many bytes are after them. Adds a line for each reply.
+/// The count of replies, and of the bytes after them. Appends a line for each reply.
 fn all_replies(alloc: Global, bytes: &[u8], told: &mut String) -> Result<String, AllocError> {
     let mut rest = bytes;
     let mut count = 0usize;
@@ -336,7 +336,7 @@ fn all_replies(alloc: Global, bytes: &[u8], told: &mut String) -> Result<String,
     format!(in alloc; "{count} replies, {left} bytes after them")
 }
 
-/// The reply at the head of bytes, and its length.
+/// The reply at the start of bytes, and its length.
 fn first_reply(alloc: Global, bytes: &[u8]) -> Result<Option<(String, usize)>, AllocError> {
     match decode(alloc, bytes, Limits::default()) {
         Ok(Decoded::Complete { reply, len }) => {
@@ -348,13 +348,13 @@ fn first_reply(alloc: Global, bytes: &[u8]) -> Result<Option<(String, usize)>, A
     }
 }
 
-/// Adds a line.
+/// Appends a line.
 fn add_line(text: &mut String, line: &str) -> Result<(), AllocError> {
     text.push_str(line)?;
     text.push('\n')
 }
 
-/// A line for each reply that a stream finds in bytes that come in pieces of this size.
+/// A line for each reply that a stream finds in bytes that are fed in pieces of this size.
 fn replies_in_pieces(
     alloc: Global,
     bytes: &[u8],
@@ -379,8 +379,8 @@ fn replies_in_pieces(
     Ok(told)
 }
 
-/// Takes the replies out of a stream, and adds a line for each one. Returns if the next one is taken in
-/// place.
+/// Takes the replies out of a stream, and appends a line for each one. Returns whether the next one is taken
+/// in place.
 fn take_replies(
     alloc: Global,
     stream: &mut ReplyStream,
@@ -401,7 +401,7 @@ fn take_replies(
     Ok(in_place)
 }
 
-/// Takes the reply at the head of a stream out, as a value or in place.
+/// Takes the first reply out of a stream, as a value or in place.
 fn taken_text(
     alloc: Global,
     stream: &mut ReplyStream,
@@ -415,7 +415,7 @@ fn taken_text(
     }
 }
 
-/// Takes the reply at the head of a stream out in place; its text is that of the bytes that it has there.
+/// Takes the first reply out of a stream in place; its text is that of decoding its bytes.
 fn reply_in_place(alloc: Global, stream: &mut ReplyStream) -> Result<String, AllocError> {
     match stream.next_in_place(alloc) {
         Ok(Some(len)) => {
@@ -430,7 +430,7 @@ fn reply_in_place(alloc: Global, stream: &mut ReplyStream) -> Result<String, All
 
 // Replies in place as flat lists of nodes.
 
-/// The nodes of a reply, or `none`: the type, the text, how many members, and where they end.
+/// The nodes of a reply, or `none`: the type, the text, the count of members, and where they end.
 fn listed_nodes(alloc: Global, bytes: &[u8]) -> Result<String, AllocError> {
     let mut nodes = node_table(alloc, bytes.len() / 3)?;
     match nodes_in(Limits::default(), bytes, nodes.as_mut_slice()) {
@@ -439,7 +439,7 @@ fn listed_nodes(alloc: Global, bytes: &[u8]) -> Result<String, AllocError> {
     }
 }
 
-/// The nodes in words, with a space between each two.
+/// The nodes as text, with a space between each two.
 fn nodes_text(alloc: Global, bytes: &[u8], nodes: &[Node]) -> Result<String, AllocError> {
     let mut text = String::new(alloc);
     for node in nodes {
@@ -451,7 +451,7 @@ fn nodes_text(alloc: Global, bytes: &[u8], nodes: &[Node]) -> Result<String, All
     Ok(text)
 }
 
-/// Adds a node in words.
+/// Appends a node as text.
 fn add_node(text: &mut String, bytes: &[u8], node: &Node) -> Result<(), AllocError> {
     let Span { start, len } = node.text;
     let kind = char::from(node.kind);
@@ -461,14 +461,14 @@ fn add_node(text: &mut String, bytes: &[u8], node: &Node) -> Result<(), AllocErr
     write!(text, "{kind}{shown} {members}>{end}")
 }
 
-/// So many bytes from that place on, as far as there are so many.
+/// At most `len` bytes from `start` on.
 fn part_of(bytes: &[u8], start: usize, len: usize) -> &[u8] {
     let (_, behind) = bytes.split_at(start.min(bytes.len()));
     let (text, _) = behind.split_at(len.min(behind.len()));
     text
 }
 
-/// What `find_nodes` says of bytes: the length of a reply and a space, or what decoding would say.
+/// The outcome of `find_nodes`: the length of a reply and a space, or the outcome that decoding would have.
 fn found_nodes(alloc: Global, limits: Limits, bytes: &[u8]) -> Result<String, AllocError> {
     let mut nodes = node_table(alloc, bytes.len() / 3)?;
     match find_nodes(alloc, limits, bytes, nodes.as_mut_slice()) {
@@ -479,8 +479,8 @@ fn found_nodes(alloc: Global, limits: Limits, bytes: &[u8]) -> Result<String, Al
     }
 }
 
-/// The length of a reply and a space, if the text of these bytes alone has so many nodes, in a table that
-/// they fill and in none that is smaller.
+/// The length of a reply and a space, if its bytes alone have this count of nodes, in a table that
+/// they fill and in no smaller one.
 fn listed_text(
     alloc: Global,
     limits: Limits,
@@ -500,7 +500,7 @@ fn listed_text(
     format!(in alloc; "{len} ")
 }
 
-/// Whether a table of that room holds the nodes of the reply at the head of bytes.
+/// Whether a table of this length has room for the nodes of the reply at the start of bytes.
 fn has_room(alloc: Global, limits: Limits, bytes: &[u8], room: usize) -> Result<bool, AllocError> {
     let mut nodes = node_table(alloc, room)?;
     match find_nodes(alloc, limits, bytes, nodes.as_mut_slice()) {
@@ -510,7 +510,7 @@ fn has_room(alloc: Global, limits: Limits, bytes: &[u8], room: usize) -> Result<
     }
 }
 
-/// How many nodes a text has, if a table of that room holds them.
+/// The count of nodes of a text, if a table of this length has room for them.
 fn nodes_with(
     alloc: Global,
     limits: Limits,
@@ -521,7 +521,7 @@ fn nodes_with(
     Ok(nodes_in(limits, text, nodes.as_mut_slice()))
 }
 
-/// A table of so many nodes.
+/// A table of `room` nodes.
 fn node_table(alloc: Global, room: usize) -> Result<Vec<Node>, AllocError> {
     let empty = Node {
         kind: 0,
@@ -532,10 +532,10 @@ fn node_table(alloc: Global, room: usize) -> Result<Vec<Node>, AllocError> {
     vec![in alloc; empty; room]
 }
 
-// What a reply is read as, and what a caller is told if it is no such record.
+// The record that a reply is read as, and the error that a caller gets if it is no such record.
 
-/// The record of the reply at the head of bytes, or the error, each as `Debug` shows it. After an error
-/// is what a caller is told.
+/// The record of the reply at the start of bytes, or the error, each as `Debug` prints it. An error is
+/// followed by the text that a caller gets.
 fn read_as<T: FromRedisValue + Debug>(alloc: Global, bytes: &[u8]) -> Result<String, AllocError> {
     match record_of::<T>(alloc, bytes) {
         Ok(record) => format!(in alloc; "{record:?}"),
@@ -543,7 +543,7 @@ fn read_as<T: FromRedisValue + Debug>(alloc: Global, bytes: &[u8]) -> Result<Str
     }
 }
 
-/// The record of the reply at the head of bytes, with every error of a caller in one.
+/// The record of the reply at the start of bytes, with every error of a caller in one type.
 fn record_of<T: FromRedisValue>(alloc: Global, bytes: &[u8]) -> Result<T, RedisError> {
     match decode(alloc, bytes, Limits::default())? {
         Decoded::Complete { reply, len: _ } => Ok(from_reply::<T>(alloc, reply)?),
@@ -551,8 +551,8 @@ fn record_of<T: FromRedisValue>(alloc: Global, bytes: &[u8]) -> Result<T, RedisE
     }
 }
 
-/// An error, and what a caller is told; of an error of the server also its code and its message. That
-/// memory ran out says nothing of the reply.
+/// An error, and the text that a caller gets; for an error of the server also its code and its message. Passes
+/// on the error that memory ran out.
 fn error_text(alloc: Global, error: &RedisError) -> Result<String, AllocError> {
     match error {
         RedisError::Memory => Err(AllocError),
@@ -574,7 +574,7 @@ fn server_text(alloc: Global, error: &ServerError) -> Result<String, AllocError>
 const PIPELINE: &[u8] = b"*1\r\n$4\r\nPING\r\n";
 
 /// The bytes of a command whose arguments are words with a space between each two, or the refusal; then
-/// each way to pack it that gives others.
+/// the bytes of each way to pack it that gives others.
 fn packed_text(alloc: Global, words: &[u8]) -> Result<String, AllocError> {
     let args = words_in(alloc, words)?;
     let told = bytes_text(alloc, pack_args(alloc, &args))?;
@@ -588,7 +588,7 @@ fn packed_text(alloc: Global, words: &[u8]) -> Result<String, AllocError> {
     Ok(outcome)
 }
 
-/// Adds other bytes than those that are told.
+/// Appends the other bytes, if they differ from these.
 fn add_other_bytes(outcome: &mut String, told: &str, other: &str) -> Result<(), AllocError> {
     if told == other {
         return Ok(());
@@ -596,7 +596,7 @@ fn add_other_bytes(outcome: &mut String, told: &str, other: &str) -> Result<(), 
     write!(outcome, "; {other}")
 }
 
-/// Bytes as text, or why there are none. That memory ran out says nothing of the arguments.
+/// Bytes as text, or why there are none. Passes on the error that memory ran out.
 fn bytes_text(alloc: Global, packed: Result<Vec<u8>, PackError>) -> Result<String, AllocError> {
     match packed {
         Ok(bytes) => {
@@ -608,14 +608,14 @@ fn bytes_text(alloc: Global, packed: Result<Vec<u8>, PackError>) -> Result<Strin
     }
 }
 
-/// The bytes that a writer of commands has after these arguments.
+/// The bytes of a command writer after it wrote these arguments.
 fn written_bytes(alloc: Global, args: &Vec<Vec<u8>>) -> Result<Vec<u8>, PackError> {
     let mut command = PackedCommand::new(alloc);
     args.write_redis_args(&mut command)?;
     command.to_bytes(alloc)
 }
 
-/// The bytes that are added after others in a pipeline; all that it holds if the others are gone.
+/// The bytes that are appended to others in a pipeline; all that it holds if the others are gone.
 fn added_bytes(alloc: Global, args: &Vec<Vec<u8>>) -> Result<Vec<u8>, PackError> {
     let mut pipeline = Vec::from_slice(alloc, PIPELINE)?;
     append_command(alloc, &mut pipeline, args)?;
@@ -624,7 +624,7 @@ fn added_bytes(alloc: Global, args: &Vec<Vec<u8>>) -> Result<Vec<u8>, PackError>
     Ok(Vec::from_slice(alloc, added)?)
 }
 
-/// The words, with a space between each two. There are none in no bytes.
+/// Splits the words, with a space between each two. No bytes have no words.
 fn words_in(alloc: Global, words: &[u8]) -> Result<Vec<Vec<u8>>, AllocError> {
     let mut args = Vec::new(alloc);
     if words.is_empty() {
