@@ -1,9 +1,9 @@
--- The bytes of the entries below a count behind a head, when the count goes up by one.
+-- The bytes of the entries below a count after a header, when the count goes up by one.
 use Rattle.std.proofs.Common.{◌≡◌, ◌+◌, ℕ, List, ◌++◌, sym, ap, ◌∙◌, append_assoc, append-nil}
 use Rattle.test_costs.proofs.BelowLemmas.{below_none, below_next}
 use Rattle.test_costs.specs.Below.{below}
 
--- one more is put behind those of the numbers so far
+-- the bytes of one more number are appended to those of the numbers so far
 pub one_more : (f : ℕ → List ℕ) (n : ℕ) (head old new : List ℕ) → old ≡ head ++ below f n → new ≡ old ++ f n
     → new ≡ head ++ below f (n + 1)
 one_more f n head old new so_far pushed =

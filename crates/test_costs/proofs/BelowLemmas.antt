@@ -1,4 +1,4 @@
--- What there is of the numbers below a count, when the count goes up by one.
+-- The lists of the numbers below a count, when the count goes up by one.
 use Rattle.std.proofs.Common.{◌≡◌, ◌+◌, ℕ, suc, List, [], ◌∷◌, ◌++◌, map, refl, sym, ap, ◌∙◌, append_assoc, arith}
 use Rattle.std.proofs.lemmas.List.{map-append}
 use Rattle.redis_resp.specs.Tree.{Tree}
@@ -18,11 +18,11 @@ below_next f n =
     let next : n + 1 ≡ suc n = omega arith in
     ap (λ m. below f m) next
 
--- the tree of a list behind which a value is put
+-- the trees of a list to which a value is appended
 pushed : (old new : List Value) (v : Value) → new ≡ old ++ v ∷ [] → map tree new ≡ map tree old ++ tree v ∷ []
 pushed old new v put = ap (λ l. map tree l) put ∙ map-append tree old (v ∷ [])
 
--- two values are put behind those of the numbers so far
+-- two values are appended to those of the numbers so far
 pub two_pushed : (f : ℕ → List Tree) (n : ℕ) (old between new : List Value) (v w : Value) → between ≡ old ++ v ∷ []
     → new ≡ between ++ w ∷ []
     → map tree old ≡ below f n → tree v ∷ tree w ∷ [] ≡ f n → map tree new ≡ below f (n + 1)
@@ -42,7 +42,7 @@ one_row_more : (row : Row) (n : ℕ) → row_trees row (n + 1) ≡ row_trees row
 unfolding row_trees
 one_row_more row n = below_next (λ index. row_tree row index ∷ []) n
 
--- a row is put behind those so far
+-- a row is appended to those so far
 pub row_pushed : (row : Row) (n : ℕ) (old new : List Value) (v : Value) → new ≡ old ++ v ∷ []
     → map tree old ≡ row_trees row n → tree v ≡ row_tree row n → map tree new ≡ row_trees row (n + 1)
 row_pushed row n old new v put so_far is =

@@ -1,4 +1,4 @@
--- The bytes of the answer that is read.
+-- The bytes of the reply that is read.
 use Rattle.std.specs.Prelude.{ℕ, ◌-◌, ◌^◌, ◌%◌, false, List, [], ◌++◌, codes, decimal, length}
 use Rattle.std.specs.Fmt.{format_spec, padded_integral}
 use Rattle.test_costs.specs.Below.{below}
@@ -13,11 +13,11 @@ text_bytes text = codes "$" ++ (decimal (length text) ++ (codes "\r\n" ++ (text 
 abbrev pub field_bytes : List ℕ → List ℕ → List ℕ
 field_bytes name value = text_bytes name ++ text_bytes value
 
--- a number in three digits, or more where it has more
+-- a number in three digits, or more if it has more
 abbrev pub three_digits : ℕ → List ℕ
 three_digits n = padded_integral (format_spec 32 0 4 3 (2 ^ 64 - 1)) false [] (decimal n)
 
--- the head of an array of so many members
+-- the header of an array of this number of members
 unfoldable pub count_bytes : ℕ → List ℕ
 count_bytes n = codes "*" ++ (decimal n ++ codes "\r\n")
 
@@ -47,16 +47,16 @@ fields_bytes n = order_bytes n ++ goods_bytes n
 abbrev pub entry_bytes : ℕ → List ℕ
 entry_bytes n = count_bytes 2 ++ (text_bytes (id_text n) ++ (count_bytes 8 ++ fields_bytes n))
 
--- what stands before the name of the stream
+-- the bytes before the name of the stream
 abbrev pub form_bytes : Form → List ℕ
 form_bytes Array = codes "*1\r\n*2\r\n"
 form_bytes Map = codes "%1\r\n"
 
--- what stands before the entries
+-- the bytes before the entries
 abbrev pub head_bytes : Form → ℕ → List ℕ
 head_bytes form count = form_bytes form
     ++ (text_bytes (codes "orders") ++ count_bytes count)
 
--- one stream with so many entries
+-- one stream with this number of entries
 abbrev pub answer_bytes : Form → ℕ → List ℕ
 answer_bytes form count = head_bytes form count ++ below entry_bytes count

@@ -1,4 +1,4 @@
--- What the words of a reading of bytes name.
+-- The words of a reading of bytes.
 use Rattle.std.specs.Prelude.{ℕ, List, Option, Some, None, codes, if◌then◌else◌}
 use Rattle.std.specs.Str.{bytes_eq}
 use Rattle.test_costs.specs.declared.answer.Form.{Form}

@@ -1,4 +1,4 @@
--- What has been read.
+-- The results of reading bytes.
 use Rattle.std.specs.Prelude.{◌≡◌, ◌≤◌, ◌++◌, ℕ, List, take, length, Option, Some, None}
 use Rattle.redis_resp.specs.Tree.{Tree}
 use Rattle.redis_wire.specs.Limits.{default_limits}
@@ -21,20 +21,20 @@ pub record HasRecord (bytes : List ℕ) : Type 0 where
   pub streams : Streams
   pub reading : read_reading tree ≡ Some streams
 
--- The bytes begin with a reply of so many streams, which stand there.
+-- The bytes begin with a reply of this number of streams, which are read in place.
 pub record HasStreams (bytes : List ℕ) (count : ℕ) : Type 0 where
   pub len : ℕ
   pub streams : List SentStream
   pub is : IsRead default_limits bytes streams len
   pub so_many : count ≡ length streams
 
--- The bytes begin with a reply whose streams stand there.
+-- The bytes begin with a reply whose streams are read in place.
 pub record AreInPlace (bytes : List ℕ) : Type 0 where
   pub len : ℕ
   pub streams : List SentStream
   pub is : IsRead default_limits bytes streams len
 
--- a reply of that length went out of what a stream holds; or none did, and nothing changed
+-- a reply of that length was removed from the bytes of a stream; or none was, and nothing changed
 abbrev pub IsNext : Held → Option ℕ → Held → Type 0
 IsNext old None new = new ≡ old
 IsNext old (Some len) new = (text : List ℕ) × (a : Answer) × (len ≡ length text)

@@ -1,4 +1,4 @@
--- What the words of the arguments name.
+-- The words of the arguments.
 use Rattle.std.specs.Prelude.{ℕ, List, Option, Some, None, codes, option_and_then, if◌then◌else◌}
 use Rattle.std.specs.Str.{bytes_eq}
 use Rattle.redis_resp.specs.Number.{unsigned_of, within}
@@ -30,11 +30,11 @@ way_named name = if bytes_eq name (codes "copied") then Some Copied
     else if bytes_eq name (codes "borrowed") then Some Borrowed
     else None
 
--- the number that a word writes, below 2 to the 64th
+-- the number below 2 to the 64th that a word writes
 abbrev pub number_of : List ℕ → Option ℕ
 number_of word = option_and_then (within 64) (unsigned_of word)
 
--- the job that four words name
+-- the job that the four words name
 abbrev pub job_of : List ℕ → List ℕ → List ℕ → List ℕ → Option Job
 job_of operation way count rows = operation_named operation >>= λ o. way_named way >>= λ w. number_of count
     >>= λ n. number_of rows >>= λ m.

@@ -1,4 +1,4 @@
--- What has been read when an operation is done.
+-- What was read after an operation.
 use Rattle.std.specs.Prelude.{◌≡◌, ◌≢◌, ◌<◌, ℕ, Bool, true}
 use Rattle.std.specs.Option.{is_some}
 use Rattle.redis_resp.specs.Number.{signed_reading}
@@ -14,7 +14,7 @@ use Rattle.test_costs.specs.declared.job.Operation.TheVariants.{AutoclaimOfIds, 
 use Rattle.test_costs.specs.declared.job.Way.{Way}
 use Rattle.test_costs.specs.declared.job.Way.TheVariants.{Copied}
 
--- what is read so often in this way has a record; a copy is not read
+-- a value that is read `count` times in this way has a record; a copy is not read
 abbrev pub IsRead : Way → ℕ → Bool → Type 0
 IsRead way count readable = way ≢ Copied → 0 < count → readable ≡ true
 

@@ -9,7 +9,7 @@ use Rattle.test_costs.specs.declared.job.Operation.TheVariants.{AutoclaimOfIds, 
 use Rattle.test_costs.specs.declared.replies.Row.{Row}
 use Rattle.test_costs.specs.declared.replies.Row.TheVariants.{Entry, Claimed, Id, Waiting}
 
--- a number in five digits, or more where it has more
+-- a number in five digits, or more if it has more
 abbrev pub five_digits : ℕ → List ℕ
 five_digits n = padded_integral (format_spec 32 0 4 5 (2 ^ 64 - 1)) false [] (decimal n)
 
@@ -22,7 +22,7 @@ abbrev pub field_trees : ℕ → ℕ → List Tree
 field_trees index field = bulk (codes "field-" ++ decimal field)
     ∷ bulk (codes "value-" ++ (decimal index ++ (codes "-" ++ decimal field))) ∷ []
 
--- the fields of a row and their values, one behind the other
+-- the fields of a row and their values, one after the other
 abbrev pub fields_tree : ℕ → ℕ → Tree
 fields_tree index count = array (trees (below (field_trees index) count))
 
@@ -34,7 +34,7 @@ row_tree (Claimed count) index = array
 row_tree Id index = id_tree index
 row_tree Waiting index = array (trees (id_tree index ∷ bulk (codes "worker-1") ∷ int (pos 7) ∷ int (pos 2) ∷ []))
 
--- so many rows, in order
+-- this number of rows, in order
 unfoldable pub row_trees : Row → ℕ → List Tree
 row_trees row count = below (λ index. row_tree row index ∷ []) count
 
@@ -42,15 +42,15 @@ row_trees row count = below (λ index. row_tree row index ∷ []) count
 abbrev pub pair_trees : ℕ → List Tree
 pair_trees n = bulk (codes "n" ++ decimal n) ∷ int (pos 7) ∷ []
 
--- rows as what XREAD gives of one stream
+-- rows as XREAD returns them of one stream
 abbrev pub stream_tree : List Tree → Tree
 stream_tree rows = array (trees (array (trees (bulk (codes "stream") ∷ array (trees rows) ∷ [])) ∷ []))
 
--- rows as what XAUTOCLAIM gives at the end of a stream, none of them deleted
+-- rows as XAUTOCLAIM returns them at the end of a stream, none of them deleted
 abbrev pub claimed_tree : List Tree → Tree
 claimed_tree rows = array (trees (bulk (codes "0-0") ∷ array (trees rows) ∷ array (trees []) ∷ []))
 
--- the reply of an operation with so many rows
+-- the reply of an operation with this number of rows
 abbrev pub reply_tree : Operation → ℕ → Tree
 reply_tree Range count = array (trees (row_trees (Entry 5) count))
 reply_tree RangeOfOneField count = array (trees (row_trees (Entry 1) count))

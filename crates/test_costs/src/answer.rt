@@ -1,4 +1,4 @@
-//! The answer that is read: one stream, whose entries have an id of 15 to 21 bytes and four fields.
+//! The reply that is read: one stream, whose entries have an id of 15 to 21 bytes and four fields.
 ghost use Rattle.std.specs.Prelude.{◌≡◌, ◌++◌, IfOk, string_bytes};
 ghost use Rattle.test_costs.specs.Answer.{text_bytes, field_bytes, count_bytes, id_of, id_text, order_bytes};
 ghost use Rattle.test_costs.specs.Answer.{goods_bytes, fields_bytes, entry_bytes, form_bytes, head_bytes};
@@ -6,16 +6,16 @@ ghost use Rattle.test_costs.specs.Answer.{answer_bytes};
 
 use std::alloc::{AllocError, Global};
 
-/// The form of the answer.
+/// The form of the reply.
 #[derive(Clone, Copy)]
 pub enum Form {
-    /// An array of streams, as RESP2 has it.
+    /// An array of streams, as in RESP2.
     Array,
-    /// A map of streams, as RESP3 has it.
+    /// A map of streams, as in RESP3.
     Map,
 }
 
-/// The bytes of an answer with so many entries.
+/// Returns the bytes of a reply with `entries` entries.
 #[tactic(auto, using(crate::proofs::AnswerLemmas::none_yet))]
 pub fn made(alloc: Global, entries: u32, form: Form) -> Result<Vec<u8>, AllocError>
     ensures { IfOk result (λ bytes. bytes.items ≡ answer_bytes form entries) }
@@ -28,7 +28,7 @@ pub fn made(alloc: Global, entries: u32, form: Form) -> Result<Vec<u8>, AllocErr
     Ok(bytes)
 }
 
-/// What stands before the entries.
+/// Appends the bytes that precede the entries.
 fn push_head(alloc: Global, bytes: &mut Vec<u8>, entries: u32, form: Form) -> Result<(), AllocError>
     ensures { IfOk result (λ _. bytes.new.items ≡ bytes.old.items ++ head_bytes form entries) }
 {
@@ -37,7 +37,7 @@ fn push_head(alloc: Global, bytes: &mut Vec<u8>, entries: u32, form: Form) -> Re
     push_count(alloc, bytes, entries)
 }
 
-/// The head of an array of so many members.
+/// Appends the header of an array of `count` members.
 #[tactic(auto, unfolding(crate::specs::Answer::count_bytes))]
 fn push_count(alloc: Global, bytes: &mut Vec<u8>, count: u32) -> Result<(), AllocError>
     ensures { IfOk result (λ _. bytes.new.items ≡ bytes.old.items ++ count_bytes count) }
@@ -46,7 +46,7 @@ fn push_count(alloc: Global, bytes: &mut Vec<u8>, count: u32) -> Result<(), Allo
     bytes.extend_from_slice(head.as_bytes())
 }
 
-/// What stands before the name of the stream.
+/// Appends the bytes that precede the name of the stream.
 fn push_form(bytes: &mut Vec<u8>, form: Form) -> Result<(), AllocError>
     ensures { IfOk result (λ _. bytes.new.items ≡ bytes.old.items ++ form_bytes form) }
 {
@@ -56,7 +56,7 @@ fn push_form(bytes: &mut Vec<u8>, form: Form) -> Result<(), AllocError>
     }
 }
 
-/// A bulk string.
+/// Appends a bulk string.
 #[tactic(auto, unfolding(crate::specs::Answer::text_bytes))]
 fn push_text(alloc: Global, bytes: &mut Vec<u8>, text: &str) -> Result<(), AllocError>
     ensures { IfOk result (λ _. bytes.new.items ≡ bytes.old.items ++ text_bytes text.now) }

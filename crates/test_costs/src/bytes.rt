@@ -1,43 +1,43 @@
-//! What is read of the bytes of an XREADGROUP's reply, and in which form they are.
+//! How the bytes of a reply of XREADGROUP are read, and which form they have.
 ghost use Rattle.std.specs.Prelude.{◌≡◌};
 ghost use Rattle.test_costs.specs.Bytes.{form_named, reading_named};
 
 use crate::answer::Form;
 
-/// In which way the answer is read.
+/// How the reply is read.
 #[derive(Clone, Copy)]
 pub enum Reading {
-    /// It is not read, but written to standard output.
+    /// The reply is not read, but written to standard output.
     Print,
-    /// It is found where all stands.
+    /// The offsets of all parts are found in place.
     Places,
-    /// Each id, name and value is looked at too, in place.
+    /// Each id, name and value is read too, in place.
     Fields,
-    /// Two fields of each entry are taken by name, in place.
+    /// Two fields of each entry are got by name, in place.
     Gets,
-    /// The value is made, and no record.
+    /// The value is decoded, and no record is made.
     Decoded,
-    /// The record is made, and what `Fields` looks at is looked at.
+    /// The record is made, and all that `Fields` reads is read.
     Copied,
-    /// A stream is fed so many answers and asked for as many replies, again and again.
+    /// A stream is fed this number of replies and then returns them, again and again.
     Fed(u32),
-    /// A stream is fed so many answers byte by byte, and asked for a reply behind each byte.
+    /// A stream is fed this number of replies byte by byte, and asked for a reply after each byte.
     FedBytes(u32),
 }
 
-/// A reading that is done over and over.
+/// A reading that is repeated.
 #[derive(Clone, Copy)]
 pub struct BytesJob {
     pub reading: Reading,
-    /// How often.
+    /// The number of repetitions.
     pub calls: u32,
-    /// The entries of the answer.
+    /// The entries of the reply.
     pub entries: u32,
     pub form: Form,
 }
 
 impl Reading {
-    /// The reading of this name.
+    /// Returns the reading of this name.
     pub fn named(name: &str) -> Option<Reading>
         ensures { result ≡ reading_named name.now }
     {
@@ -57,7 +57,7 @@ impl Reading {
     }
 }
 
-/// The form of this name.
+/// Returns the form of this name.
 pub fn form_of(name: &str) -> Option<Form>
     ensures { result ≡ form_named name.now }
 {

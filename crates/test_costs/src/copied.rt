@@ -1,4 +1,4 @@
-//! The answer, read by the copying path.
+//! The reply, read by the copying path.
 ghost use Rattle.std.specs.Prelude.{◌≤◌, IfOk, length, take};
 ghost use Rattle.redis_wire.specs.Limits.{default_limits};
 ghost use Rattle.redis_wire.specs.Reply.{answer};
@@ -12,7 +12,7 @@ use std::alloc::Global;
 use std::collections::HashMap;
 use stream_entries::{StreamId, StreamKey, StreamReadReply};
 
-/// Makes the value and no record; how many bytes it has.
+/// Decodes the value and makes no record. Returns its length in bytes.
 pub fn decoded(alloc: Global, bytes: &[u8]) -> Result<usize, anyhow::Error>
     ensures { IfOk result (λ len. IsHead bytes.now len) }
 {
@@ -21,7 +21,7 @@ pub fn decoded(alloc: Global, bytes: &[u8]) -> Result<usize, anyhow::Error>
     Ok(len)
 }
 
-/// Makes the record; the sum of the lengths of all ids, names and values.
+/// Makes the record. Returns the sum of the lengths of all ids, names and values.
 pub fn read(alloc: Global, bytes: &[u8]) -> Result<usize, anyhow::Error>
     ensures { IfOk result (λ _. HasRecord bytes.now) }
 {

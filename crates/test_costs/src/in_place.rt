@@ -1,4 +1,4 @@
-//! The answer, read where it stands.
+//! The reply, read in place.
 ghost use Rattle.std.specs.Prelude.{IfOk};
 ghost use Rattle.test_costs.specs.Found.{HasStreams, AreInPlace};
 
@@ -6,10 +6,10 @@ use anyhow::anyhow;
 use redis_wire::Limits;
 use stream_in_place::{EntriesRef, EntryTape, FieldsRef, StreamsRef};
 
-/// Both names are fields of every entry.
+/// Two names that are fields of every entry.
 const NAMES: [&[u8]; 2] = [b"customer", b"note"];
 
-/// Finds where all stands; how many streams there are.
+/// Finds the offsets of all parts. Returns the number of streams.
 pub fn places(tape: &mut EntryTape, bytes: &[u8]) -> Result<usize, anyhow::Error>
     ensures { IfOk result (λ count. HasStreams bytes.now count) }
 {
@@ -19,7 +19,7 @@ pub fn places(tape: &mut EntryTape, bytes: &[u8]) -> Result<usize, anyhow::Error
     }
 }
 
-/// The sum of the lengths of all ids, names and values.
+/// Returns the sum of the lengths of all ids, names and values.
 pub fn fields(tape: &mut EntryTape, bytes: &[u8]) -> Result<usize, anyhow::Error>
     ensures { IfOk result (λ _. AreInPlace bytes.now) }
 {
@@ -29,7 +29,7 @@ pub fn fields(tape: &mut EntryTape, bytes: &[u8]) -> Result<usize, anyhow::Error
     }
 }
 
-/// The sum of the lengths of two values of each entry, which are taken by name.
+/// Returns the sum of the lengths of two values of each entry, which are got by name.
 pub fn gets(tape: &mut EntryTape, bytes: &[u8]) -> Result<usize, anyhow::Error>
     ensures { IfOk result (λ _. AreInPlace bytes.now) }
 {

@@ -1,23 +1,23 @@
-//! What the arguments ask for.
+//! The jobs that the arguments select.
 ghost use Rattle.std.specs.Prelude.{◌≡◌, Some, None, IfOk, IfErr};
 ghost use Rattle.test_costs.specs.Job.{job_of, number_of, operation_named, way_named};
 
 use thiserror::Error;
 
-/// What is done.
+/// The operation that is measured.
 #[derive(Clone, Copy, Debug, PartialEq)]
 pub enum Operation {
     /// A range of entries of five fields is read.
     Range,
     /// A range of entries of one field is read.
     RangeOfOneField,
-    /// A read of one stream is read, in the standard form, with entries of five fields.
+    /// A reply of XREAD with one stream is read, in the standard form, with entries of five fields.
     Read,
-    /// A read of one stream is read, in the claim form, with entries of five fields.
+    /// A reply of XREAD with one stream is read, in the claim form, with entries of five fields.
     ReadWithClaim,
-    /// An automatic claim of entries of five fields is read.
+    /// A reply of XAUTOCLAIM with entries of five fields is read.
     Autoclaim,
-    /// An automatic claim of ids alone is read.
+    /// A reply of XAUTOCLAIM with JUSTID is read.
     AutoclaimOfIds,
     /// The pending entries of a range are read.
     Pending,
@@ -28,7 +28,7 @@ pub enum Operation {
 }
 
 impl Operation {
-    /// The operation of this name.
+    /// Returns the operation of this name.
     pub fn named(name: &str) -> Option<Operation>
         ensures { result ≡ operation_named name.now }
     {
@@ -47,19 +47,19 @@ impl Operation {
     }
 }
 
-/// In which way it is done.
+/// How the operation is done.
 #[derive(Clone, Copy, Debug, PartialEq)]
 pub enum Way {
     /// The value is copied, and the copy dropped: nothing is read. Of `Add`, the options are made.
     Copied,
     /// It is copied, the copy is read by value, and the record dropped. Of `Add`, a list is made.
     Owned,
-    /// It is read where it stands, and the record dropped. Of `Add`, a list with room is written.
+    /// It is read by reference, and the record dropped. Of `Add`, a list with room is written.
     Borrowed,
 }
 
 impl Way {
-    /// The way of this name.
+    /// Returns the way of this name.
     pub fn named(name: &str) -> Option<Way>
         ensures { result ≡ way_named name.now }
     {
@@ -72,18 +72,18 @@ impl Way {
     }
 }
 
-/// An operation that is done over and over.
+/// An operation that is repeated.
 #[derive(Clone, Copy, Debug, PartialEq)]
 pub struct Job {
     pub operation: Operation,
     pub way: Way,
-    /// How often.
+    /// The number of repetitions.
     pub count: usize,
     /// The rows of the reply that is read.
     pub rows: usize,
 }
 
-/// Why words name no job.
+/// Why the words name no job.
 #[derive(Debug, PartialEq, Drop, Error)]
 pub enum JobError {
     #[error("wanted: OPERATION WAY COUNT ROWS, or READING COUNT ENTRIES array|map")]
@@ -96,7 +96,7 @@ pub enum JobError {
     NotNumber,
 }
 
-/// The number that a word writes in decimal, where it fits 64 bits.
+/// Parses a word as a decimal number. Returns `None` if it does not fit 64 bits.
 fn number_in(word: &str) -> Option<usize>
     ensures { result ≡ number_of word.now }
 {
@@ -104,7 +104,7 @@ fn number_in(word: &str) -> Option<usize>
 }
 
 impl Job {
-    /// The job that the four words name; refused by the first of them that names nothing.
+    /// Returns the job that the four words name. The first of them that names nothing is the error.
     pub fn of_words(operation: &str, way: &str, count: &str, rows: &str) -> Result<Job, JobError>
         ensures ok { IfOk result (λ job.
             job_of operation.now way.now count.now rows.now ≡ Some job) }

@@ -1,29 +1,29 @@
-//! Does a job over and over, so that what it costs can be counted: an operation of the stream layer
-//! on a value, or a reading of the bytes of an XREADGROUP's answer.
+//! Repeats a job, so that its costs can be counted: an operation of the stream layer
+//! on a value, or a reading of the bytes of a reply of XREADGROUP.
 //!
 //! ```text
 //! test_costs range owned 100 1000      # reads a range of 1000 entries, a hundred times, by value
 //! test_costs fields 100 1000 array     # all ids and fields of 1000 entries in place, a hundred times
-//! test_costs print 1 1000 map          # writes the answer itself to standard output
+//! test_costs print 1 1000 map          # writes the reply itself to standard output
 //! ```
 //!
-//! Four words are a job, and further fours are further jobs. The words of an operation are its name,
-//! the way in which it is done, how often, and the rows of the reply that is read; `job` lists them.
-//! The words of a reading are its name, how often, how many entries the answer has, each of four
-//! fields, and whether it is RESP2's array of streams or RESP3's map of them.
+//! Each four words are a job, and there may be several jobs. The words of an operation are its name, the
+//! way in which it is done, the number of repetitions, and the rows of the reply; `job` lists them.
+//! The words of a reading are its name, the number of repetitions, the number of entries of the reply,
+//! each of four fields, and whether it is RESP2's array of streams or RESP3's map of them.
 //!
-//! The readings: `places` finds where all stands; `fields` also looks at each id, name and value, in
-//! place; `gets` takes two fields of each entry by name; `decoded` makes the value and no record;
-//! `copied` makes the record, and looks at what `fields` does; `fed` feeds ten answers to a stream of
-//! replies, each in one piece, and then takes them out, and `fed-bytes` feeds ten answers byte by byte
+//! The readings: `places` finds the offsets of all parts; `fields` also reads each id, name and value, in
+//! place; `gets` gets two fields of each entry by name; `decoded` decodes the value and makes no record;
+//! `copied` makes the record, and reads what `fields` does; `fed` feeds ten replies to a stream of
+//! replies, each in one piece, and then takes them out; `fed-bytes` feeds ten replies byte by byte
 //! and asks for a reply after each byte; `fed-one` and `fed-one-bytes` do so with one.
 //!
-//! The reply is made once, before the first time: `tools/count-work` counts the work of a call as the
-//! difference of two runs. A line is printed for each job: its words, and of a reading how many bytes
-//! the answer has and the sum of the lengths of what was looked at, or taken out.
+//! The reply is made once, before the first repetition: `tools/count-work` counts the work of a call as
+//! the difference of two runs. A line is printed for each job: its words, and for a reading the length
+//! of the reply in bytes and the sum of the lengths of what was read or taken out.
 //!
-//! It ends with 0, or with 1 if the arguments name no work and standard error says why, or with 2 if
-//! memory ran out, standard output failed, or the answer was not read.
+//! It exits with 0, or with 1 if the arguments name no job and standard error has the reason, or with 2 if
+//! memory ran out, standard output failed, or the reply was not read.
 #![tactic(auto)]
 
 mod answer;
@@ -47,10 +47,10 @@ use std::process::ExitCode;
 use std::{env, io};
 use stream_in_place::EntryTape;
 
-/// The arguments name no work.
+/// The arguments name no job.
 const NO_WORK: u8 = 1;
 
-/// Memory ran out, standard output failed, or the answer was not read.
+/// Memory ran out, standard output failed, or the reply was not read.
 const FAILED: u8 = 2;
 
 fn main(rt: HostRuntime) -> ExitCode {
@@ -61,7 +61,7 @@ fn main(rt: HostRuntime) -> ExitCode {
     }
 }
 
-/// Does what the arguments ask for; false if they name no work.
+/// Does the jobs that the arguments name. Returns `false` if they name none.
 fn work_of_arguments(rt: &HostRuntime) -> Result<bool, anyhow::Error> {
     let mut words = Vec::new(rt.alloc());
     for word in env::args(rt)?.skip(1) {
@@ -78,7 +78,7 @@ fn work_of_arguments(rt: &HostRuntime) -> Result<bool, anyhow::Error> {
     Ok(true)
 }
 
-/// Says on standard error why words name no work.
+/// Prints on standard error why the words name no job.
 fn refuse(rt: &HostRuntime, error: JobError) -> Result<bool, anyhow::Error> {
     eprintln!(rt; "reply_bench: {error}")?;
     Ok(false)
@@ -104,7 +104,7 @@ fn work_of_words(rt: &HostRuntime, words: &[String]) -> Result<bool, anyhow::Err
     Ok(true)
 }
 
-/// The job of this reading that the three words after its name say.
+/// Parses the three words after the name of a reading as its job.
 fn bytes_job(reading: Reading, calls: &str, entries: &str, form: &str) -> Option<BytesJob> {
     Some(BytesJob {
         reading,
@@ -114,7 +114,7 @@ fn bytes_job(reading: Reading, calls: &str, entries: &str, form: &str) -> Option
     })
 }
 
-/// Reads the bytes of an answer, or prints them.
+/// Reads the bytes of a reply, or prints them.
 fn read_bytes(rt: &HostRuntime, words: &[String], job: BytesJob) -> Result<bool, anyhow::Error> {
     let bytes = made(rt.alloc(), job.entries, job.form)?;
     if matches!(job.reading, Reading::Print) {
@@ -127,7 +127,7 @@ fn read_bytes(rt: &HostRuntime, words: &[String], job: BytesJob) -> Result<bool,
     Ok(true)
 }
 
-/// Prints the words of a job, with a space behind each.
+/// Prints the words of a job, with a space after each.
 fn print_words(rt: &HostRuntime, words: &[String]) -> Result<(), anyhow::Error> {
     for word in words {
         print!(rt; "{word} ")?;
@@ -135,7 +135,7 @@ fn print_words(rt: &HostRuntime, words: &[String]) -> Result<(), anyhow::Error> 
     Ok(())
 }
 
-/// Reads the answer so often, and sums up what was looked at.
+/// Reads the reply as often as the job says, and sums up the lengths of what was read.
 fn read(alloc: Global, bytes: &[u8], job: BytesJob) -> Result<usize, anyhow::Error> {
     let mut tape = EntryTape::new(alloc);
     let mut stream = ReplyStream::new(alloc, Limits::default());
@@ -151,7 +151,7 @@ fn read(alloc: Global, bytes: &[u8], job: BytesJob) -> Result<usize, anyhow::Err
     Ok(sum)
 }
 
-/// Feeds so many answers, each in one piece, and then takes as many replies out; their bytes.
+/// Feeds this number of replies, each in one piece, and then takes them out. Returns the length of all.
 fn fed(
     alloc: Global,
     stream: &mut ReplyStream,
@@ -169,7 +169,7 @@ fn fed(
     Ok(sum)
 }
 
-/// Feeds so many answers byte by byte, and asks for a reply behind each byte; the bytes of all replies.
+/// Feeds this number of replies byte by byte, and asks for a reply after each byte. Returns the length of all.
 fn fed_bytes(
     alloc: Global,
     stream: &mut ReplyStream,

@@ -16,7 +16,7 @@ use stream_options::{
     StreamAddOptions, StreamDeletionPolicy, StreamTrimStrategy, StreamTrimmingMode,
 };
 
-/// Does the operation, in its way and so often as the job says. An Err means that its reply has no
+/// Does the operation, in the way and as often as the job says. An `Err` means that its reply has no
 /// record, unless it is `Memory`.
 pub fn perform(alloc: Global, job: Job) -> Result<(), ParsingError>
     ensures ok { IfOk result (λ _. IsRead job.way job.count
@@ -51,7 +51,7 @@ fn add_options(alloc: Global) -> Result<StreamAddOptions, AllocError> {
     )
 }
 
-/// All options of XADD: made anew, written as a list that is made, or into a list with room.
+/// All options of XADD: made anew, written as a new list, or written to a list with room.
 fn add(alloc: Global, way: Way, count: usize) -> Result<(), ParsingError>
     ensures { IfErr result (λ e. e ≡ ParsingError.Memory) }
 {

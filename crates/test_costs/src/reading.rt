@@ -1,4 +1,4 @@
-//! A value that is read over and over.
+//! A value that is read repeatedly.
 ghost use Rattle.std.specs.Prelude.{◌≡◌, ◌≢◌, None, IfOk, IfErr};
 ghost use Rattle.std.specs.Option.{is_some};
 ghost use Rattle.redis_resp.specs.Value.{tree};
@@ -8,7 +8,7 @@ use crate::job::Way;
 use redis_resp::{FromRedisValue, ParsingError, Value, from_redis_value, from_redis_value_ref};
 use std::alloc::Global;
 
-/// Reads the value `count` times, and drops each record. An Err means that the value has no record,
+/// Reads the value `count` times, and drops each record. An `Err` means that the value has no record,
 /// unless it is `Memory`.
 pub fn read<T: FromRedisValue>(
     alloc: Global,

@@ -9,17 +9,17 @@ use crate::job::Operation;
 use redis_resp::Value;
 use std::alloc::{AllocError, Global};
 
-/// What a row of a reply is.
+/// The kind of the rows of a reply.
 #[derive(Clone, Copy, Debug)]
 enum Row {
-    /// An entry with so many fields, as XRANGE gives it.
+    /// An entry with this number of fields, as XRANGE returns it.
     Entry(usize),
-    /// An entry with so many fields, its idle time and its deliveries, as XREADGROUP gives it with
+    /// An entry with this number of fields, its idle time and its deliveries, as XREADGROUP returns it with
     /// CLAIM.
     Claimed(usize),
-    /// An id, as XAUTOCLAIM gives it with JUSTID.
+    /// An id, as XAUTOCLAIM returns it with JUSTID.
     Id,
-    /// An entry that waits, as XPENDING gives it with a count.
+    /// A pending entry, as XPENDING returns it with a count.
     Waiting,
 }
 
@@ -66,7 +66,7 @@ fn make_row(alloc: Global, row: Row, index: usize) -> Result<Value, AllocError>
     Ok(Value::Array(items))
 }
 
-/// So many rows of this kind.
+/// Returns `count` rows of this kind.
 #[tactic(auto, using(crate::proofs::BelowLemmas::no_rows))]
 fn rows(alloc: Global, row: Row, count: usize) -> Result<Vec<Value>, AllocError>
     ensures { IfOk result (λ v. map tree v.items ≡ row_trees row count) }
@@ -78,7 +78,7 @@ fn rows(alloc: Global, row: Row, count: usize) -> Result<Vec<Value>, AllocError>
     Ok(rows)
 }
 
-/// So many pairs of a text and a number, one behind the other.
+/// Returns `count` pairs of a text and a number, one after the other.
 #[tactic(auto, using(crate::proofs::BelowLemmas::below_none))]
 fn pairs(alloc: Global, count: usize) -> Result<Vec<Value>, AllocError>
     ensures { IfOk result (λ v. map tree v.items ≡ below pair_trees count) }
@@ -91,7 +91,7 @@ fn pairs(alloc: Global, count: usize) -> Result<Vec<Value>, AllocError>
     Ok(items)
 }
 
-/// The rows as what XREAD gives of one stream.
+/// The rows as XREAD returns them of one stream.
 fn one_stream(alloc: Global, rows: Vec<Value>) -> Result<Value, AllocError>
     ensures { IfOk result (λ v. tree v ≡ stream_tree (map tree rows.items)) }
 {
@@ -100,7 +100,7 @@ fn one_stream(alloc: Global, rows: Vec<Value>) -> Result<Value, AllocError>
     Ok(Value::Array(vec![in alloc; stream]?))
 }
 
-/// The rows as what XAUTOCLAIM gives at the end of a stream, none of them deleted.
+/// The rows as XAUTOCLAIM returns them at the end of a stream, none of them deleted.
 fn claimed_to_the_end(alloc: Global, rows: Vec<Value>) -> Result<Value, AllocError>
     ensures { IfOk result (λ v. tree v ≡ claimed_tree (map tree rows.items)) }
 {
@@ -109,7 +109,7 @@ fn claimed_to_the_end(alloc: Global, rows: Vec<Value>) -> Result<Value, AllocErr
     Ok(Value::Array(vec![in alloc; next, Value::Array(rows), deleted]?))
 }
 
-/// The reply that an operation reads, with so many rows; nil for `Add`, which reads none.
+/// Returns the reply that an operation reads, with `count` rows; nil for `Add`, which reads none.
 pub fn reply(alloc: Global, operation: Operation, count: usize) -> Result<Value, AllocError>
     ensures { IfOk result (λ v. tree v ≡ reply_tree operation count) }
 {

@@ -1,10 +1,10 @@
-//! The words of the commands, and what their replies are read as.
+//! The words of the commands WAIT and WAITAOF, and the readings of their replies.
 use redis_resp::{ParsingError, ToRedisArgs, Value};
 use std::alloc::{AllocError, Global};
 use std::process::Abort;
 use stream_commands::{wait, wait_aof};
 
-/// The command is written as the words of this line.
+/// Checks that the command is written as the words of this line.
 fn check<T: ToRedisArgs>(rt: &(impl AllocGlobal + Abort), command: &T, line: &str) {
     let listed = command.to_redis_args(rt.alloc()).expect(rt, "memory");
     let mut words = line.split(' ');
@@ -35,7 +35,7 @@ fn replicas_are_counted(rt: HostRuntime) {
     assert!(rt; wait(2, 1).read(rt.alloc(), Value::Nil).is_err());
 }
 
-/// The reply of a server whose file has it, and of one replica.
+/// The reply if the server's own file has it, and one replica's.
 fn both(alloc: Global) -> Result<Value, AllocError> {
     Ok(Value::Array(vec![in alloc; Value::Int(1), Value::Int(1)]?))
 }

@@ -1,4 +1,4 @@
-//! A worker of one's own, tried with no server and no connection: to copy from.
+//! An example of a worker, tested without a server or a connection: to copy from.
 mod loopback;
 
 use redis_wire::{Decoded, Limits, Reply, command_words, decode};
@@ -9,7 +9,7 @@ use worker::{
     EntryRef, Handler, MakeGroup, NotCommitted, Settings, SettingsError, Verdict, Worker,
 };
 
-/// Counts the entries that it is given.
+/// Counts the entries that it handles.
 #[derive(Drop)]
 struct Count {
     done: usize,
@@ -34,7 +34,7 @@ impl Handler for Count {
     }
 }
 
-/// A worker that begins.
+/// A new worker.
 fn worker_of(alloc: Global, consumer: &str) -> Result<Worker, Fail> {
     let mut settings = Settings::new(
         String::from_str(alloc, "k")?,
@@ -45,7 +45,7 @@ fn worker_of(alloc: Global, consumer: &str) -> Result<Worker, Fail> {
     Ok(Worker::new(alloc, settings))
 }
 
-/// The reply that bytes hold.
+/// Decodes bytes as a reply.
 fn reply_of(alloc: Global, bytes: &[u8]) -> Result<Reply, Fail> {
     match decode(alloc, bytes, Limits::default())? {
         Decoded::Complete { reply, .. } => Ok(reply),
@@ -53,7 +53,7 @@ fn reply_of(alloc: Global, bytes: &[u8]) -> Result<Reply, Fail> {
     }
 }
 
-/// The reply to the command of this line.
+/// Returns the bytes of the reply to the command of this line.
 fn told(
     alloc: Global,
     server: &mut Server,
@@ -98,7 +98,7 @@ fn my_worker_takes_each_entry(rt: HostRuntime) -> Result<(), Fail> {
     Ok(())
 }
 
-/// What settings with these names are refused for, None if they are made.
+/// Returns why settings with these names are refused, or `None` if they are made.
 fn refusal_of(
     alloc: Global,
     key: &str,

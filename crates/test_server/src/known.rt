@@ -1,4 +1,4 @@
-//! Numbers of ids, what is known, and what files tell. Each outcome is worked out by hand.
+//! Numbers of ids, the set of known ids, and the ids in files. Each expected result was computed by hand.
 use std::alloc::AllocError;
 use std::process::Abort;
 use worker_journal::known_ids::{FileError, KnownId, KnownIds, number_of, numbers_of_file};
@@ -55,7 +55,7 @@ fn an_id_keeps_its_number_and_its_place(rt: HostRuntime) {
     }
 }
 
-/// These are known, with the places of their lines, and those are not.
+/// Checks that these ids are known, with the offsets of their lines, and that those are not.
 fn check_known(
     rt: &(impl AllocGlobal + Abort),
     ids: &KnownIds,
@@ -117,7 +117,7 @@ fn nothing_is_known_at_first(rt: HostRuntime) {
     check_known(&rt, &ids, [].as_slice(), [0u128, 1, u128::MAX].as_slice());
 }
 
-/// What the lines of a file with these bytes tell.
+/// Returns the ids of the lines of a file with these bytes.
 fn told_by(
     rt: &(impl AllocGlobal + Abort),
     bytes: &[u8],
@@ -127,7 +127,7 @@ fn told_by(
     numbers_of_file(rt.alloc(), &file, json)
 }
 
-/// These ids were told, and these are the places of their lines.
+/// Checks that these are the ids, and these the offsets of their lines.
 fn check_ids(rt: &impl Abort, told: &[KnownId], ids: &[(u128, usize)]) {
     assert_eq!(rt; told.len(), ids.len());
     for (told, (number, place)) in told.iter().zip(ids) {
@@ -191,7 +191,7 @@ fn what_has_no_end_is_no_line(rt: HostRuntime) {
     check_told(&rt, b"1-0\tn\tv\n{", false, [(id(1, 0), 0usize)].as_slice());
 }
 
-/// A file of several pieces: lines are cut at their ends.
+/// A file that is read in several pieces: lines cross the ends of pieces.
 fn long_file(rt: &(impl AllocGlobal + Abort)) -> Result<Vec<u8>, AllocError> {
     let mut bytes = Vec::new(rt.alloc());
     for number in 0..20_000u64 {
@@ -213,7 +213,7 @@ fn check_long(rt: &(impl AllocGlobal + Abort)) -> Result<(), FileError> {
     for number in 0..20_000usize {
         assert_eq!(rt; told[number].number(), id(number as u64, number as u64 % 7));
     }
-    // A line has 33 bytes with its end, and beside these its number twice: ten of one digit, 90 of two, and so on.
+    // A line has 33 bytes with its end, and its number twice beside these: ten of one digit, 90 of two, and so on.
     assert_eq!(rt; told[1].place(), 35);
     assert_eq!(rt; told[10].place(), 350);
     assert_eq!(rt; told[19_999].place(), 837_737);

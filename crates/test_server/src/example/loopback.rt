@@ -30,7 +30,7 @@ fn add_three<R: Read + Drop, W: Write + Drop>(
     Ok(())
 }
 
-/// How many entries a worker takes in eight rounds.
+/// How many entries a worker handles in eight rounds.
 fn drained<R: Read + Drop, W: Write + Drop>(
     alloc: Global,
     connection: &mut Connection<R, W>,
@@ -63,7 +63,7 @@ fn my_worker_drains_what_another_connection_adds(rt: HostRuntime) -> Result<(), 
     Ok(())
 }
 
-/// How many of eight ways to the server and back brought an acknowledgement and a question.
+/// How many of eight round trips carried an acknowledgement together with the next command.
 fn pipelined<R: Read + Drop, W: Write + Drop>(
     alloc: Global,
     connection: &mut Connection<R, W>,
@@ -93,7 +93,7 @@ fn an_acknowledgement_goes_out_with_the_next_question(rt: HostRuntime) -> Result
     Ok(())
 }
 
-/// How many entries are pending before a worker ends that did three, and after it.
+/// How many entries are pending before and after the end of a worker that handled three.
 fn pending_around_the_end<R: Read + Drop, W: Write + Drop>(
     alloc: Global,
     connection: &mut Connection<R, W>,
@@ -170,7 +170,7 @@ fn failed(outcome: io::Result<usize>) -> Option<ErrorKind> {
     }
 }
 
-/// A writer that holds what it takes until it is flushed.
+/// A writer that buffers what is written until it is flushed.
 #[derive(Drop)]
 struct Holding {
     held: Vec<u8>,
