@@ -1,4 +1,4 @@
--- The names of scripts: which module plays a script of which name.
+-- The names of scripts, by the module that plays them.
 use Rattle.std.specs.Prelude.{ℕ, List, Bool, true, false, codes, if◌then◌else◌}
 use Rattle.std.specs.Str.{bytes_eq}
 

@@ -1,33 +1,33 @@
 //! Plays both ends of a stream over a server in memory, and compares what went in with what is in the
 //! file: a producer adds records, and a worker writes them into a file of lines.
 //!
-//! A line is played as many runs, and printed with what came of them after a tab:
+//! Each line is played as a number of runs, and is printed with their outcome after a tab:
 //!
 //! | Line | The runs |
 //! |---|---|
-//! | `calm 7 3 2` | one with no fault; it is the same if memory is refused on its way |
+//! | `calm 7 3 2` | one run with no fault; its result is the same if memory is refused |
 //! | `cut producer 7 3 2` | the connection of this end breaks after each byte, in either direction |
 //! | `crash producer 7 3 2` | this end is killed at each step |
 //! | `crash file 7 3 2` | the worker is killed within each commit, and its file is left with each length |
-//! | `late producer 7 3 2` | as `cut`; what was not sent comes later, at each of six moments |
-//! | `random 1 1000` | random schedules of all of these, from this seed on, so many |
+//! | `late producer 7 3 2` | as `cut`; the unsent bytes arrive later, at each of six delays |
+//! | `random 1 1000` | 1,000 random schedules of all of these faults, from the seed 1 on |
 //!
-//! The end is `producer` or `worker`. The numbers are those of records, of records in a batch of the
-//! producer, and of entries that the worker asks for at once. Then words may follow:
+//! The end is `producer` or `worker`. The numbers are the count of records, of records in a batch of the
+//! producer, and of entries in one read of the worker. Then words may follow:
 //!
-//! | Word | What it changes |
+//! | Word | Its effect |
 //! |---|---|
 //! | `resp3` | both ends speak RESP3 |
-//! | `restarts` | after its connection broke an end is started again, as after a kill |
-//! | `forgets` | wrong: a new worker begins without the last lines of its file |
-//! | `guesses` | wrong: after its connection broke the producer does not ask what is in the stream |
+//! | `restarts` | after its connection broke, an end is restarted, as after a kill |
+//! | `forgets` | wrong: a new worker ignores the last lines of its file |
+//! | `guesses` | wrong: after its connection broke, the producer does not read the last id of the stream |
 //!
-//! A worker that is started again first acknowledges the last lines of its file, as many as it asks for
-//! at once.
+//! A worker that is restarted first acknowledges the last lines of its file, as many as one read
+//! returns.
 //!
-//! Of a line is printed how many runs it had and what happened in them. Then how many files differ from
-//! what went in, and how many of these have a line twice, lack one, or have one of no record. If none of
-//! that is so, the lines are in another order.
+//! For each line the number of runs and the faults in them are printed. Then how many files differ from
+//! the records, and how many of these have a line twice, lack one, or have one of no record. If a file
+//! differs in none of these ways, its lines are in another order.
 ghost use Rattle.std.specs.Prelude.{IfOk, IsTrue};
 ghost use Rattle.test_sessions.specs.Scripts.{is_both_ends_script};
 
@@ -43,13 +43,13 @@ use worker::{
 use worker_journal::{LineLog, LogFile, TornFile, entry_in, push_escaped, push_field};
 use worker_producer::{FeedError, Producer, Record, Settings as FeedSettings, Stage};
 
-/// What the words of a line say of its runs.
+/// The parameters of the runs of a line.
 #[derive(Clone, Copy)]
 struct Plan {
     records: usize,
-    /// At most so many records are added at once.
+    /// The most records that are added at once.
     batch: usize,
-    /// At most so many entries are asked for at once.
+    /// The most entries that are read at once.
     page: usize,
     is_resp3: bool,
     restarts: bool,
@@ -70,7 +70,7 @@ pub fn play(alloc: Global, name: &str, lines: &str, out: &mut String) -> Result<
     }
 }
 
-/// Plays each line, and prints it with what came of it.
+/// Plays each line, and prints it with its outcome.
 fn play_lines(alloc: Global, lines: &str, out: &mut String) -> Result<(), AllocError> {
     for line in lines.lines() {
         out.push_str(line)?;
@@ -80,7 +80,7 @@ fn play_lines(alloc: Global, lines: &str, out: &mut String) -> Result<(), AllocE
     Ok(())
 }
 
-/// Plays the runs of a line, and returns what came of them.
+/// Plays the runs of a line, and returns their outcome.
 fn play_line(alloc: Global, line: &str) -> Result<String, AllocError> {
     let (name, words) = parted(line);
     if name == "calm" {
@@ -89,7 +89,7 @@ fn play_line(alloc: Global, line: &str) -> Result<String, AllocError> {
     play_runs(alloc, name, words)?.text(alloc)
 }
 
-/// What came of a run with no fault.
+/// The outcome of a run with no fault.
 fn calm_text(is_same: bool) -> &'static str {
     if is_same {
         "the same records, in order, each once"
@@ -112,12 +112,12 @@ fn play_runs(alloc: Global, name: &str, words: &str) -> Result<Tally, AllocError
     }
 }
 
-/// The first word, and the others.
+/// Returns the first word, and the other words.
 fn parted(words: &str) -> (&str, &str) {
     words.split_once(' ').unwrap_or((words, ""))
 }
 
-/// The number that a word is, or 0.
+/// Parses a word as a number; 0 if it is none.
 fn number_of(word: &str) -> usize {
     word.parse().unwrap_or(0)
 }
@@ -131,7 +131,7 @@ fn end_of(word: &str) -> End {
     }
 }
 
-/// Whether one of these words is this one.
+/// Whether `word` is one of these words.
 fn has_word(words: &str, word: &str) -> bool {
     for other in words.split(' ') {
         if other == word {
@@ -157,13 +157,13 @@ fn plan_of(words: &str) -> Plan {
     }
 }
 
-// The connection of an end to the server in memory. It breaks after so many bytes, and what was not
-// sent before may come later.
+// The connection of an end to the server in memory. It breaks after a number of bytes. The unsent
+// bytes may arrive later.
 
-/// A fault that does not come.
+/// A fault that never happens.
 const NEVER: usize = usize::MAX;
 
-/// How a turn of an end went.
+/// The result of a turn of an end.
 #[derive(Clone, Copy, PartialEq, Eq)]
 enum Turn {
     Done,
@@ -176,11 +176,11 @@ enum Turn {
 /// The faults of an end and of its connection.
 #[derive(Clone, Copy)]
 struct Faults {
-    /// The connection breaks after so many bytes, in either direction.
+    /// The connection breaks after this number of bytes, in either direction.
     bytes: usize,
-    /// The end is killed after so many steps.
+    /// The end is killed after this number of steps.
     steps: usize,
-    /// What was not sent then comes so many moments after the next connection begins.
+    /// The unsent bytes arrive this number of moments after the next connection starts.
     delay: usize,
 }
 
@@ -191,12 +191,12 @@ const CALM: Faults = Faults {
     delay: NEVER,
 };
 
-/// Bytes of a connection that broke, which are still to come to the server.
+/// Bytes of a broken connection that are still to arrive at the server.
 #[derive(Drop)]
 struct Late {
     client: Client,
     bytes: Vec<u8>,
-    /// How many moments pass before.
+    /// The number of moments until then.
     moments: usize,
 }
 
@@ -205,19 +205,19 @@ struct Late {
 struct Link {
     is_resp3: bool,
     client: Client,
-    /// Bytes of replies that the end has.
+    /// Bytes of replies that the end received.
     replies: ReplyStream,
-    /// What was not sent before the connection broke.
+    /// The bytes that were not sent before the connection broke.
     unsent: Vec<u8>,
     late: Option<Late>,
     faults: Faults,
-    /// How many times late bytes came.
+    /// How many times late bytes arrived.
     lates: usize,
     /// How many times they added records.
     late_records: usize,
 }
 
-/// The reply to a command that is asked beside all connections.
+/// The reply to a command outside of all connections.
 fn reply_to(alloc: Global, server: &mut Server, command: &[u8]) -> Result<Vec<u8>, AllocError> {
     let mut client = Client::new(alloc);
     let mut reply = Vec::new(alloc);
@@ -235,7 +235,7 @@ fn client_of(alloc: Global, server: &mut Server, is_resp3: bool) -> Result<Clien
     Ok(client)
 }
 
-/// The bytes that pass before the connection breaks, and those after them.
+/// Splits off the bytes that pass before the connection breaks, and returns them and the rest.
 fn passing<'a>(left: &mut usize, bytes: &'a [u8]) -> (&'a [u8], &'a [u8]) {
     let len = bytes.len().min(*left);
     *left -= len;
@@ -257,7 +257,7 @@ impl Link {
         })
     }
 
-    /// Another connection without a fault in place of this one. Bytes of this one may come later.
+    /// Replaces this connection with one without a fault. Unsent bytes of this one may arrive later.
     fn connect_again(&mut self, alloc: Global, server: &mut Server) -> Result<(), AllocError> {
         let next = client_of(alloc, server, self.is_resp3)?;
         let client = mem::replace(&mut self.client, next);
@@ -275,17 +275,17 @@ impl Link {
         Ok(())
     }
 
-    /// Whether it has no fault.
+    /// Whether the connection has no fault.
     fn is_calm(&self) -> bool {
         self.faults.bytes == NEVER && self.faults.steps == NEVER
     }
 
-    /// Whether bytes are still to come late.
+    /// Whether late bytes are still to arrive.
     fn has_late(&self) -> bool {
         self.late.is_some()
     }
 
-    /// One moment more: bytes that are late may come now. The replies to them go nowhere.
+    /// Advances by one moment: late bytes may arrive now. The replies to them are dropped.
     fn pass_moment(
         &mut self,
         alloc: Global,
@@ -311,7 +311,7 @@ impl Link {
         Ok(())
     }
 
-    /// One step more: false if the end is killed before it.
+    /// Takes one step. Returns `false` if the end is killed before it.
     fn goes_on(&mut self) -> bool {
         if self.faults.steps == 0 {
             return false;
@@ -320,7 +320,7 @@ impl Link {
         true
     }
 
-    /// Sends bytes in two pieces, with a moment between them, and has the replies come.
+    /// Sends bytes in two pieces, with a moment between them, and delivers the replies.
     fn exchange(
         &mut self,
         alloc: Global,
@@ -342,7 +342,7 @@ impl Link {
         self.bring(&replies)
     }
 
-    /// Has replies come to the end, unless it is killed before.
+    /// Delivers replies to the end, unless it is killed before.
     fn bring(&mut self, replies: &[u8]) -> Result<Turn, AllocError> {
         if !self.goes_on() {
             return Ok(Turn::Killed);
@@ -358,7 +358,7 @@ impl Link {
         })
     }
 
-    /// The next reply, if it came whole.
+    /// The next reply, if it is complete.
     fn next_reply(&mut self, alloc: Global) -> Result<Option<Reply>, AllocError> {
         match self.replies.next(alloc) {
             Ok(reply) => Ok(reply),
@@ -366,7 +366,7 @@ impl Link {
         }
     }
 
-    /// The length of the next reply, if it came whole.
+    /// The length of the next reply, if it is complete.
     fn next_len(&mut self, alloc: Global) -> Result<Option<usize>, AllocError> {
         match self.replies.next_in_place(alloc) {
             Ok(len) => Ok(len),
@@ -374,12 +374,12 @@ impl Link {
         }
     }
 
-    /// The bytes of replies that are not taken.
+    /// The bytes of replies that were not taken out.
     fn reply_bytes(&self) -> &[u8] {
         self.replies.bytes()
     }
 
-    /// So many of them are taken.
+    /// Removes this number of these bytes.
     fn give_out(&mut self, len: usize) {
         self.replies.give_out(len);
     }
@@ -397,15 +397,15 @@ struct Feed {
     records: Vec<Record>,
     batch: usize,
     link: Link,
-    /// Whether a new producer begins after its connection broke.
+    /// Whether a new producer starts after its connection broke.
     restarts: bool,
-    /// Whether it takes what was on its way for granted then, in place of asking.
+    /// Whether it then assumes that its unconfirmed batch was added, and does not read the last id.
     guesses: bool,
     /// Whether it refused a reply.
     is_refused: bool,
 }
 
-/// A producer of batches of this size. A script has no other than from 1 to 10,000.
+/// A producer of batches of this size. Scripts use only sizes from 1 to 10,000.
 fn producer_of(alloc: Global, batch: usize) -> Result<Producer, AllocError> {
     match FeedSettings::new(String::from_str(alloc, "k")?, BASE, batch) {
         Ok(settings) => Ok(Producer::new(settings)),
@@ -413,7 +413,7 @@ fn producer_of(alloc: Global, batch: usize) -> Result<Producer, AllocError> {
     }
 }
 
-/// So many records, each with its number.
+/// Returns `count` records, each with its number.
 fn records_of(alloc: Global, count: usize) -> Result<Vec<Record>, AllocError> {
     let mut records = Vec::new(alloc);
     for index in 0..count {
@@ -427,7 +427,7 @@ fn records_of(alloc: Global, count: usize) -> Result<Vec<Record>, AllocError> {
     Ok(records)
 }
 
-/// A producer that begins, and its connection.
+/// A new producer, and its connection.
 fn feed_of(alloc: Global, server: &mut Server, plan: Plan) -> Result<Feed, AllocError> {
     Ok(Feed {
         producer: producer_of(alloc, plan.batch)?,
@@ -440,12 +440,12 @@ fn feed_of(alloc: Global, server: &mut Server, plan: Plan) -> Result<Feed, Alloc
     })
 }
 
-/// Whether it knows that all records are in.
+/// Whether the producer knows that all records are in the stream.
 fn is_all_in(feed: &Feed) -> bool {
     feed.producer.stage() == Stage::Knows(feed.records.len() as u64)
 }
 
-/// It asks, and takes the replies.
+/// The producer sends its commands, and takes the replies.
 fn feed_turn(
     alloc: Global,
     server: &mut Server,
@@ -473,7 +473,7 @@ fn feed_turn(
     hear_all(alloc, feed, turn)
 }
 
-/// It takes the replies that came.
+/// The producer takes the replies that arrived.
 fn hear_all(alloc: Global, feed: &mut Feed, turn: Turn) -> Result<Turn, AllocError> {
     for _ in 0..feed.producer.coming() {
         let Some(reply) = feed.link.next_reply(alloc)? else {
@@ -487,7 +487,7 @@ fn hear_all(alloc: Global, feed: &mut Feed, turn: Turn) -> Result<Turn, AllocErr
     Ok(turn)
 }
 
-/// It takes a reply.
+/// The producer takes a reply.
 fn hear_reply(alloc: Global, feed: &mut Feed, reply: Reply) -> Result<(), AllocError> {
     let count = feed.records.len() as u64;
     match feed.producer.answered(alloc, reply, count) {
@@ -500,13 +500,13 @@ fn hear_reply(alloc: Global, feed: &mut Feed, reply: Reply) -> Result<(), AllocE
     }
 }
 
-/// Another producer over a new connection.
+/// Starts another producer over a new connection.
 fn start_feed_again(alloc: Global, server: &mut Server, feed: &mut Feed) -> Result<(), AllocError> {
     feed.producer = producer_of(alloc, feed.batch)?;
     feed.link.connect_again(alloc, server)
 }
 
-/// Gives the producer a new connection; another producer begins over it if the schedule restarts them.
+/// Gives the producer a new connection; another producer starts over it if the schedule restarts them.
 fn connect_feed_again(
     alloc: Global,
     server: &mut Server,
@@ -523,7 +523,7 @@ fn connect_feed_again(
     feed.link.connect_again(alloc, server)
 }
 
-/// It takes for granted what was on its way: its question is not sent, and the reply is made up.
+/// The producer assumes that its batch was added: its command is not sent, and the reply is made up.
 fn guess(alloc: Global, feed: &mut Feed, stage: Stage) -> Result<(), AllocError> {
     let known = match stage {
         Stage::Asking => return Ok(()),
@@ -549,19 +549,19 @@ fn last_id_reply(alloc: Global, last: u64) -> Result<Reply, AllocError> {
 
 // The end of the worker, which writes each entry as a line of a file.
 
-/// What nobody acknowledged for so many turns is claimed.
+/// An entry that was not acknowledged for this number of turns is claimed.
 const IDLE: usize = 6;
 
 /// A handler that writes each entry as a line.
 #[derive(Drop)]
 struct Lines {
     log: LineLog<TornFile>,
-    /// The line of the entry that is handled.
+    /// The line of the current entry.
     text: Vec<u8>,
 }
 
 impl Lines {
-    /// Adds the line of an entry to the log.
+    /// Appends the line of an entry to the log.
     fn add(&mut self, entry: &EntryRef<'_>) -> Result<(), AllocError> {
         self.text.clear();
         push_escaped(&mut self.text, entry.id().as_bytes())?;
@@ -604,28 +604,28 @@ impl Handler for Lines {
 struct Drain {
     worker: Worker,
     lines: Lines,
-    /// So many entries are asked for at once.
+    /// The most entries that are read at once.
     page: usize,
     link: Link,
-    /// Whether a new worker begins after its connection broke.
+    /// Whether a new worker starts after its connection broke.
     restarts: bool,
-    /// Whether a new worker begins without the last lines of its file.
+    /// Whether a new worker ignores the last lines of its file.
     forgets: bool,
-    /// In the next life the commit of this number fails; 0 for none.
+    /// After the next start the commit with this number fails; 0 for none.
     failing: usize,
-    /// Whether a commit that fails kills it.
+    /// Whether a commit that fails kills the worker.
     is_killed: bool,
-    /// When it starts again, its file has so many of the bytes that were not synced.
+    /// The number of unsynced bytes that are left in its file at the next start.
     torn: usize,
-    /// How many commits failed.
+    /// The number of commits that failed.
     failed: usize,
-    /// How many bytes at most were not synced when it was killed.
+    /// The most bytes that were not synced when the worker was killed.
     most_waited: usize,
     /// Whether it refused a reply.
     is_refused: bool,
 }
 
-/// The settings of the worker. A script has no other count than from 1 to 10,000.
+/// The settings of the worker. Scripts use only counts from 1 to 10,000.
 fn settings_of(alloc: Global, page: usize) -> Result<Settings, AllocError> {
     let key = String::from_str(alloc, "k")?;
     let group = String::from_str(alloc, "g")?;
@@ -640,7 +640,7 @@ fn settings_of(alloc: Global, page: usize) -> Result<Settings, AllocError> {
     Ok(settings)
 }
 
-/// The log in a file. A file in memory fails only if memory is refused.
+/// Opens a log over a file. A file in memory fails only if memory is refused.
 fn log_of(alloc: Global, file: TornFile) -> Result<LineLog<TornFile>, AllocError> {
     match LineLog::open(alloc, file) {
         Ok(log) => Ok(log),
@@ -653,7 +653,7 @@ fn empty_log(alloc: Global) -> Result<LineLog<TornFile>, AllocError> {
     log_of(alloc, TornFile::new(alloc, Vec::new(alloc)))
 }
 
-/// A worker that begins, its empty file and its connection.
+/// A new worker, its empty file and its connection.
 fn drain_of(alloc: Global, server: &mut Server, plan: Plan) -> Result<Drain, AllocError> {
     Ok(Drain {
         worker: Worker::new(alloc, settings_of(alloc, plan.page)?),
@@ -674,7 +674,7 @@ fn drain_of(alloc: Global, server: &mut Server, plan: Plan) -> Result<Drain, All
     })
 }
 
-/// The last so many lines of the file.
+/// Returns the last `number` lines of the file.
 fn last_lines(
     alloc: Global,
     log: &LineLog<TornFile>,
@@ -686,7 +686,7 @@ fn last_lines(
     }
 }
 
-/// The lines that are committed.
+/// The lines that were committed.
 fn committed(alloc: Global, drain: &Drain) -> Result<Vec<u8>, AllocError> {
     let mut bytes = Vec::new(alloc);
     for line in &last_lines(alloc, &drain.lines.log, usize::MAX)? {
@@ -707,7 +707,7 @@ fn id_of(alloc: Global, line: &[u8]) -> Result<String, AllocError> {
     }
 }
 
-/// The ids of the last so many lines of the file.
+/// Returns the ids of the last `number` lines of the file.
 fn last_ids(
     alloc: Global,
     log: &LineLog<TornFile>,
@@ -720,7 +720,7 @@ fn last_ids(
     Ok(ids)
 }
 
-/// A worker that begins with what its file tells. No commit has more lines than a page.
+/// A new worker that resumes from its file. No commit has more lines than a page.
 fn worker_of(alloc: Global, drain: &Drain) -> Result<Worker, AllocError> {
     let settings = settings_of(alloc, drain.page)?;
     if drain.forgets {
@@ -730,7 +730,7 @@ fn worker_of(alloc: Global, drain: &Drain) -> Result<Worker, AllocError> {
     Ok(Worker::resumed(alloc, settings, ids))
 }
 
-/// How many bytes of a file are not synced.
+/// The number of bytes of a file that are not synced.
 fn waiting(file: &TornFile) -> Result<usize, AllocError> {
     match file.len() {
         Ok(len) => Ok(len.saturating_sub(file.on_disk().len())),
@@ -738,7 +738,7 @@ fn waiting(file: &TornFile) -> Result<usize, AllocError> {
     }
 }
 
-/// Takes the file out, as a crash leaves it: with so many of the bytes that were not synced.
+/// Takes the file out as a crash leaves it: with `torn` of the bytes that were not synced.
 fn file_left(alloc: Global, drain: &mut Drain, torn: usize) -> Result<TornFile, AllocError> {
     let next = empty_log(alloc)?;
     let mut file = mem::replace(&mut drain.lines.log, next).into_file();
@@ -752,13 +752,13 @@ fn file_left(alloc: Global, drain: &mut Drain, torn: usize) -> Result<TornFile, 
     Ok(file)
 }
 
-/// What the disk has, after a last crash.
+/// The content of the disk after a last crash.
 fn bytes_left(alloc: Global, drain: &mut Drain) -> Result<Vec<u8>, AllocError> {
     let file = file_left(alloc, drain, 0)?;
     file.on_disk().to_vec(alloc)
 }
 
-/// Another worker over what a crash left of the file, and over a new connection.
+/// Starts another worker over the file that a crash left, and over a new connection.
 fn start_drain_again(
     alloc: Global,
     server: &mut Server,
@@ -767,7 +767,7 @@ fn start_drain_again(
     let torn = mem::replace(&mut drain.torn, 0);
     let failing = mem::replace(&mut drain.failing, 0);
     let mut file = file_left(alloc, drain, torn)?;
-    // (the first sync is that of the start)
+    // (the first sync is that of opening the log)
     file.fail_sync(if failing > 0 {
         failing.saturating_add(1)
     } else {
@@ -778,7 +778,7 @@ fn start_drain_again(
     drain.link.connect_again(alloc, server)
 }
 
-/// Gives the worker a new connection; another worker begins over it if the schedule restarts them.
+/// Gives the worker a new connection; another worker starts over it if the schedule restarts them.
 fn connect_drain_again(
     alloc: Global,
     server: &mut Server,
@@ -791,7 +791,7 @@ fn connect_drain_again(
     drain.link.connect_again(alloc, server)
 }
 
-/// It asks, and takes the reply.
+/// The worker sends its command, and takes the reply.
 fn drain_turn(
     alloc: Global,
     server: &mut Server,
@@ -818,7 +818,7 @@ fn drain_turn(
     hear_entries(alloc, drain)
 }
 
-/// A commit failed: it is killed, or goes on.
+/// A commit failed: the worker is killed, or goes on.
 fn not_committed(drain: &mut Drain) -> Turn {
     drain.failed = drain.failed.saturating_add(1);
     if drain.is_killed {
@@ -828,7 +828,7 @@ fn not_committed(drain: &mut Drain) -> Turn {
     }
 }
 
-/// It takes the reply, if that came whole.
+/// The worker takes the reply, if it is complete.
 fn hear_entries(alloc: Global, drain: &mut Drain) -> Result<Turn, AllocError> {
     let Some(len) = drain.link.next_len(alloc)? else {
         return Ok(Turn::Cut);
@@ -863,7 +863,7 @@ fn hear_entries(alloc: Global, drain: &mut Drain) -> Result<Turn, AllocError> {
 
 // A server in memory and both ends.
 
-/// So many rounds after the last fault are enough for every record.
+/// This number of rounds after the last fault is enough for every record.
 const ROUNDS: usize = 60;
 
 /// A server in memory and both ends.
@@ -878,7 +878,7 @@ struct World {
     kills: usize,
 }
 
-/// A server and both ends as they begin.
+/// A new server and both ends.
 fn world_of(alloc: Global, plan: Plan) -> Result<World, AllocError> {
     let mut server = Server::new(alloc);
     let feed = feed_of(alloc, &mut server, plan)?;
@@ -903,7 +903,7 @@ fn count_fault(world: &mut World, turn: Turn) {
     }
 }
 
-/// A turn of the producer. It begins again after a fault; refused memory is one.
+/// A turn of the producer. It restarts or reconnects after a fault; refused memory is a fault.
 fn turn_of_producer(alloc: Global, world: &mut World) -> Result<(), AllocError> {
     world.now = world.now.saturating_add(1);
     let turn = feed_turn(alloc, &mut world.server, world.now, &mut world.feed);
@@ -916,7 +916,7 @@ fn turn_of_producer(alloc: Global, world: &mut World) -> Result<(), AllocError> 
     }
 }
 
-/// A turn of the worker. It begins again after a fault; refused memory is one.
+/// A turn of the worker. It restarts or reconnects after a fault; refused memory is a fault.
 fn turn_of_worker(alloc: Global, world: &mut World) -> Result<(), AllocError> {
     world.now = world.now.saturating_add(1);
     let turn = drain_turn(alloc, &mut world.server, world.now, &mut world.drain);
@@ -935,7 +935,7 @@ fn is_nothing_pending(alloc: Global, world: &mut World) -> Result<bool, AllocErr
     Ok(reply.starts_with(b"*4\r\n:0\r\n"))
 }
 
-/// Whether all records are in the stream and in the file, and nothing is under way.
+/// Whether all records are in the stream and in the file, and nothing is pending or late.
 fn is_done(alloc: Global, world: &mut World) -> Result<bool, AllocError> {
     let is_late = world.feed.link.has_late() || world.drain.link.has_late();
     if is_late || !is_all_in(&world.feed) {
@@ -948,7 +948,7 @@ fn is_done(alloc: Global, world: &mut World) -> Result<bool, AllocError> {
     is_nothing_pending(alloc, world)
 }
 
-/// Turns of both ends, until all is done.
+/// Gives both ends turns until all is done.
 fn settle(alloc: Global, world: &mut World) -> Result<Run, AllocError> {
     for _ in 0..ROUNDS {
         if is_done(alloc, world)? {
@@ -960,7 +960,7 @@ fn settle(alloc: Global, world: &mut World) -> Result<Run, AllocError> {
     run_of(alloc, world)
 }
 
-/// The end of a run.
+/// The outcome of a run.
 #[derive(Clone, Copy)]
 struct Run {
     cuts: usize,
@@ -968,14 +968,14 @@ struct Run {
     failed: usize,
     lates: usize,
     late_records: usize,
-    /// How many bytes could still pass at the producer, and at the worker.
+    /// The bytes that could still pass at the producer, and at the worker.
     left: (usize, usize),
-    /// How many bytes at most were not synced when the worker was killed.
+    /// The most bytes that were not synced when the worker was killed.
     most_waited: usize,
     seen: Seen,
 }
 
-/// The run that ends here. A reply that an end refused ends all: only refused memory brings one about.
+/// The outcome of the run. It is an error if an end refused a reply, which only refused memory causes.
 fn run_of(alloc: Global, world: &mut World) -> Result<Run, AllocError> {
     if world.feed.is_refused || world.drain.is_refused {
         return Err(AllocError);
@@ -1001,19 +1001,19 @@ struct Seen {
     is_same: bool,
     /// Whether it has a line twice.
     is_twice: bool,
-    /// Whether it lacks one.
+    /// Whether it lacks the line of a record.
     is_missing: bool,
-    /// Whether it has one of no record.
+    /// Whether it has a line of no record.
     is_foreign: bool,
 }
 
-/// The line of the record of this number.
+/// The line of the record with this number.
 fn line_of(alloc: Global, number: usize) -> Result<String, AllocError> {
     let id = BASE.saturating_add(number as u64);
     format!(in alloc; "{id}-0\tn\t{number}")
 }
 
-/// How often a text has a line.
+/// Counts how often a text has a line.
 fn times_in(text: &str, line: &str) -> usize {
     let mut times = 0usize;
     for other in text.lines() {
@@ -1024,7 +1024,7 @@ fn times_in(text: &str, line: &str) -> usize {
     times
 }
 
-/// Which of so many records are in a file.
+/// Which of the first `records` records are in a file.
 fn seen_in(alloc: Global, bytes: &[u8], records: usize) -> Result<Seen, AllocError> {
     let text = str::from_utf8(bytes).unwrap_or("");
     let mut wanted = String::new(alloc);
@@ -1065,20 +1065,20 @@ struct Tally {
     foreign: usize,
 }
 
-/// One more if it is so.
+/// Adds one if `is_so`.
 fn count(number: &mut usize, is_so: bool) {
     if is_so {
         *number = number.saturating_add(1);
     }
 }
 
-/// So many more.
+/// Adds `more`.
 fn sum(number: &mut usize, more: usize) {
     *number = number.saturating_add(more);
 }
 
 impl Tally {
-    /// No run yet.
+    /// The sum of no runs.
     fn new() -> Tally {
         Tally {
             runs: 0,
@@ -1094,7 +1094,7 @@ impl Tally {
         }
     }
 
-    /// One run more.
+    /// Adds a run.
     fn add(&mut self, run: Run) {
         count(&mut self.runs, true);
         sum(&mut self.cuts, run.cuts);
@@ -1108,7 +1108,7 @@ impl Tally {
         count(&mut self.foreign, run.seen.is_foreign);
     }
 
-    /// What happened.
+    /// The counts of runs and faults, as text.
     fn faults_text(&self, alloc: Global) -> Result<String, AllocError> {
         format!(in alloc;
             "{} runs: {} cuts, {} kills, {} failed commits; {} times bytes came late, and {} times they added records",
@@ -1116,7 +1116,7 @@ impl Tally {
         )
     }
 
-    /// What happened, and in how many runs the file is not what went in.
+    /// The counts of runs and faults, and of the runs whose file differs from the records, as text.
     fn text(&self, alloc: Global) -> Result<String, AllocError> {
         let faults = self.faults_text(alloc)?;
         format!(in alloc;
@@ -1130,36 +1130,36 @@ impl Tally {
     }
 }
 
-// The runs of a line: each has its faults at another place.
+// The runs of a line: each has its fault at another point.
 
-/// No end has so many steps, commits or bytes.
+/// No end has this number of steps, commits or bytes.
 const LARGEST: usize = 10_000;
 
-/// Which end has faults.
+/// The end that has faults.
 #[derive(Clone, Copy, PartialEq, Eq)]
 enum End {
     Producer,
     Worker,
 }
 
-/// How a run begins.
+/// The start of a run.
 #[derive(Clone, Copy)]
 enum Start {
     /// An end has these faults.
     Faults(End, Faults),
-    /// The commit of this number fails and kills the worker, and so many bytes of it are left.
+    /// The commit with this number fails and kills the worker, and this number of its bytes is left.
     Torn(usize, usize),
-    /// The turns of the schedule of this seed come first.
+    /// The turns of the schedule with this seed come first.
     Random(u64),
 }
 
-/// A run that begins so.
+/// Makes a run with this start.
 fn make_run(alloc: Global, plan: Plan, start: Start) -> Result<Run, AllocError> {
     let mut world = world_of(alloc, plan)?;
     run_in(alloc, &mut world, start)
 }
 
-/// A run in this world that begins so.
+/// Makes a run with this start in this world.
 fn run_in(alloc: Global, world: &mut World, start: Start) -> Result<Run, AllocError> {
     match start {
         Start::Faults(End::Producer, faults) => world.feed.link.faults = faults,
@@ -1170,7 +1170,7 @@ fn run_in(alloc: Global, world: &mut World, start: Start) -> Result<Run, AllocEr
     settle(alloc, world)
 }
 
-/// In the life that begins now this commit fails, and so many bytes of it are left.
+/// Makes this commit fail after a start of the worker, so that this number of its bytes is left.
 fn plant_torn(
     alloc: Global,
     world: &mut World,
@@ -1183,13 +1183,13 @@ fn plant_torn(
     Ok(())
 }
 
-/// Whether the file has what went in after a run with no fault but what refuses memory.
+/// Whether the file has all records after a run with no fault but refused memory.
 fn plays_calmly(alloc: Global, plan: Plan) -> Result<bool, AllocError> {
     let run = make_run(alloc, plan, Start::Faults(End::Producer, CALM))?;
     Ok(run.seen.is_same)
 }
 
-/// How many bytes an end sends and takes in a run with no fault.
+/// Counts the bytes that an end sends and receives in a run with no fault.
 fn session_len(alloc: Global, plan: Plan, end: End) -> Result<usize, AllocError> {
     let run = make_run(alloc, plan, Start::Faults(End::Producer, CALM))?;
     let left = match end {
@@ -1199,7 +1199,7 @@ fn session_len(alloc: Global, plan: Plan, end: End) -> Result<usize, AllocError>
     Ok(NEVER - left)
 }
 
-/// Adds a run for each byte: the connection of the end breaks after it, and what was not sent comes
+/// Adds a run for each byte: the connection of the end breaks after it, and the unsent bytes arrive
 /// after this delay.
 fn add_cuts(
     alloc: Global,
@@ -1219,15 +1219,15 @@ fn add_cuts(
     Ok(())
 }
 
-/// The connection of the end breaks after each byte.
+/// Runs in which the connection of the end breaks after each byte.
 fn cuts(alloc: Global, plan: Plan, end: End) -> Result<Tally, AllocError> {
     let mut tally = Tally::new();
     add_cuts(alloc, plan, end, NEVER, &mut tally)?;
     Ok(tally)
 }
 
-/// The connection of the end breaks after each byte, and what was not sent comes 0, 1, .. 5 moments after
-/// the next connection begins.
+/// Runs in which the connection of the end breaks after each byte, and the unsent bytes arrive 0, 1, .. 5
+/// moments after the next connection starts.
 fn lates(alloc: Global, plan: Plan, end: End) -> Result<Tally, AllocError> {
     let mut tally = Tally::new();
     for delay in 0..6usize {
@@ -1236,7 +1236,7 @@ fn lates(alloc: Global, plan: Plan, end: End) -> Result<Tally, AllocError> {
     Ok(tally)
 }
 
-/// The end is killed at each of its steps.
+/// Runs in which the end is killed at each of its steps.
 fn crashes(alloc: Global, plan: Plan, end: End) -> Result<Tally, AllocError> {
     let mut tally = Tally::new();
     for steps in 0..LARGEST {
@@ -1254,8 +1254,8 @@ fn crashes(alloc: Global, plan: Plan, end: End) -> Result<Tally, AllocError> {
     Ok(tally)
 }
 
-/// Adds a run for each number of bytes that a crash within this commit may leave: false if there is no
-/// such commit.
+/// Adds a run for each number of bytes that a crash within this commit may leave. Returns `false` if there
+/// is no such commit.
 fn add_torn(
     alloc: Global,
     plan: Plan,
@@ -1275,7 +1275,7 @@ fn add_torn(
     Ok(true)
 }
 
-/// The worker is killed within each commit, and its file is left with each length.
+/// Runs in which the worker is killed within each commit, and its file is left with each length.
 fn torn_files(alloc: Global, plan: Plan) -> Result<Tally, AllocError> {
     let mut tally = Tally::new();
     for commit in 1..LARGEST {
@@ -1288,17 +1288,17 @@ fn torn_files(alloc: Global, plan: Plan) -> Result<Tally, AllocError> {
 
 // Random schedules.
 
-/// How many turns a schedule has before the last fault.
+/// The number of turns of a schedule before the last fault.
 const MOVES: usize = 24;
 
-/// The next number of a sequence that looks random.
+/// The next number of a pseudo-random sequence.
 fn next(state: u64) -> u64 {
     state
         .wrapping_mul(6_364_136_223_846_793_005)
         .wrapping_add(1_442_695_040_888_963_407)
 }
 
-/// A number below a limit, of the bits of a state from this one on.
+/// A number below a limit, from the bits of a state from `bit` on.
 fn drawn(state: u64, bit: u32, limit: u64) -> usize {
     let bits = if bit < 64 { state >> bit } else { 0 };
     if limit == 0 {
@@ -1307,7 +1307,7 @@ fn drawn(state: u64, bit: u32, limit: u64) -> usize {
     usize::try_from(bits % limit).unwrap_or(0)
 }
 
-/// The plan of the schedule of this seed.
+/// The plan of the schedule with this seed.
 fn plan_of_seed(plan: Plan, seed: u64) -> Plan {
     let state = next(next(seed));
     Plan {
@@ -1321,7 +1321,7 @@ fn plan_of_seed(plan: Plan, seed: u64) -> Plan {
     }
 }
 
-/// The faults that a state says; in most of them none.
+/// The faults that a state selects; most states select none.
 fn faults_of(state: u64) -> Faults {
     let delay = drawn(state, 20, 9);
     let mut faults = CALM;
@@ -1336,7 +1336,7 @@ fn faults_of(state: u64) -> Faults {
     faults
 }
 
-/// In its next life a commit of the worker fails, in some states.
+/// In some states, makes a commit of the worker fail after its next start.
 fn plant_failing(world: &mut World, state: u64) {
     let drain = &mut world.drain;
     if drawn(state, 36, 2) == 0 {
@@ -1346,7 +1346,7 @@ fn plant_failing(world: &mut World, state: u64) {
     }
 }
 
-/// The move that a state says: an end that has no faults gets some, and has a turn.
+/// Makes the move that a state selects: an end that has no faults gets some, and has a turn.
 fn make_move(alloc: Global, world: &mut World, state: u64) -> Result<(), AllocError> {
     let restarts = drawn(state, 38, 2) == 0;
     if drawn(state, 60, 2) == 0 {
@@ -1365,7 +1365,7 @@ fn make_move(alloc: Global, world: &mut World, state: u64) -> Result<(), AllocEr
     turn_of_worker(alloc, world)
 }
 
-/// The moves of the schedule of this seed.
+/// Makes the moves of the schedule with this seed.
 fn make_moves(alloc: Global, world: &mut World, seed: u64) -> Result<(), AllocError> {
     let mut state = next(seed);
     for _ in 0..MOVES {
@@ -1375,7 +1375,7 @@ fn make_moves(alloc: Global, world: &mut World, seed: u64) -> Result<(), AllocEr
     Ok(())
 }
 
-/// So many schedules, from this seed on.
+/// Runs `count` schedules, from this seed on.
 fn schedules(alloc: Global, plan: Plan, seed: usize, count: usize) -> Result<Tally, AllocError> {
     let mut tally = Tally::new();
     for number in 0..count {

@@ -1,28 +1,28 @@
-//! Plays scripts of its standard input, and prints what happens: a command to a server in memory, a
-//! session of a worker or of a producer, a connection whose reader or writer fails, workers over a
+//! Plays the scripts on its standard input, and prints what happens: commands to a server in memory, the
+//! steps of a worker or of a producer, a connection whose reader or writer fails, workers over a
 //! server whose connections break.
 //!
-//! A script ends with an empty line. Its first line says what is played; a line before it that
-//! begins with `#` is its title. Bytes are in it as text, with `\r` and `\n` for the ends of lines, and
+//! A script ends with an empty line. Its first line selects what is played; a line before it that
+//! begins with `#` is its title. Bytes are written as text, with `\r` and `\n` for the ends of lines, and
 //! `\xff` for any byte:
 //!
 //! | First line | Each other line |
 //! |---|---|
 //! | `server 2` | a command; 3 for RESP3 |
-//! | `bytes` | all that a client of a server of its own sends |
-//! | `worker` and settings | what a worker is asked or hears, see `workers` |
-//! | `letters` | `give` and an entry, or bytes that reply to what is asked |
+//! | `bytes` | all bytes that a client sends to a server of its own |
+//! | `worker` and settings | a step of a worker, see `workers` |
+//! | `letters` | `give` and an entry, or the bytes of the reply to the next command |
 //! | `poison 3 5 3 4` | none, see `workers::poison` |
-//! | `connection` and sizes | what a connection does, see `workers::connection`; once for reads of each size |
-//! | `ends 7` | bytes that come; a worker makes so many rounds, wherever they end |
-//! | `streams 3 8 a b` | a command; then a worker for each stream, so many turns each |
+//! | `connection` and sizes | a step of a connection, see `workers::connection`; once for reads of each size |
+//! | `ends 7` | bytes that arrive; a worker makes 7 rounds, wherever the bytes end |
+//! | `streams 3 8 a b` | a command; then a worker for each stream, 8 turns each |
 //! | `cuts 2`, `crashes 2 60`, `gone 2 30`, `schedules 1000` | none, see `together` |
-//! | `settles 2 3` | none; two workers take so many entries |
-//! | `outbox` | what a worker with an outbox does, or a command to its server, see `outbox` |
-//! | `producer 100 2 3` | what a producer is asked or hears, see `producer` |
+//! | `settles 2 3` | none; two workers handle 3 entries |
+//! | `outbox` | a step of a worker with an outbox, or a command to its server, see `outbox` |
+//! | `producer 100 2 3` | a step of a producer, see `producer` |
 //! | `both-ends` | runs of a producer and a worker over one server, see `both_ends` |
 //!
-//! It ends with 0, or with 2 if memory ran out, or standard input or output failed.
+//! It exits with 0, or with 2 if memory ran out, or standard input or output failed.
 #![tactic(auto)]
 
 mod both_ends;
@@ -103,7 +103,7 @@ fn play(alloc: Global, script: &str, out: &mut String) -> Result<(), AllocError>
 
 // The texts of scripts and of transcripts.
 
-/// What is before and after the first mark; all and nothing if there is none.
+/// Returns the text before and after the first mark; the whole text and an empty one if there is no mark.
 fn parted(text: &str, mark: char) -> (&str, &str) {
     match text.split_once(mark) {
         Some(parts) => parts,
@@ -111,7 +111,7 @@ fn parted(text: &str, mark: char) -> (&str, &str) {
     }
 }
 
-/// The settings of a worker of the group `g`. A script has no empty name; one that has is not played.
+/// The settings of a worker of the group `g`. Scripts have no empty name; a script with one is not played.
 fn settings_for(alloc: Global, key: &str, consumer: &str) -> Result<Settings, AllocError> {
     let settings = Settings::new(
         String::from_str(alloc, key)?,
@@ -124,7 +124,7 @@ fn settings_for(alloc: Global, key: &str, consumer: &str) -> Result<Settings, Al
     }
 }
 
-/// The number that a word is, or 0.
+/// Parses a word as a number; 0 if it is none.
 fn number_of(word: &str) -> usize {
     word.parse::<usize>().unwrap_or(0)
 }
@@ -135,7 +135,7 @@ fn push_line(out: &mut String, line: &str) -> Result<(), AllocError> {
     out.push('\n')
 }
 
-/// Appends what was asked or done, and what came of it if something did.
+/// Appends a command or a step, and its result if that is not empty.
 fn push_exchange(out: &mut String, asked: &str, answer: &str) -> Result<(), AllocError> {
     out.push_str("> ")?;
     push_line(out, asked)?;
@@ -145,7 +145,7 @@ fn push_exchange(out: &mut String, asked: &str, answer: &str) -> Result<(), Allo
     push_line(out, answer)
 }
 
-/// The bytes that a text of a script is: `\r` and `\n` are ends of lines, and `\xff` is any byte.
+/// The bytes of a text of a script: `\r` and `\n` are ends of lines, and `\xff` is any byte.
 fn bytes_of(alloc: Global, text: &str) -> Result<Vec<u8>, AllocError> {
     let mut bytes = Vec::new(alloc);
     let mut rest = text.as_bytes();
@@ -159,7 +159,7 @@ fn bytes_of(alloc: Global, text: &str) -> Result<Vec<u8>, AllocError> {
     Ok(bytes)
 }
 
-/// The first byte of a text of a script, and what is after it.
+/// Returns the first byte of a text of a script, and the rest of the text.
 fn first_byte(text: &[u8]) -> Option<(u8, &[u8])> {
     match text {
         [b'\\', b'x', high, low, rest @ ..] => Some((digit_of(*high) << 4 | digit_of(*low), rest)),
@@ -171,7 +171,7 @@ fn first_byte(text: &[u8]) -> Option<(u8, &[u8])> {
     }
 }
 
-/// The number of a hexadecimal digit, and 0 for another byte.
+/// The value of a hexadecimal digit, and 0 for another byte.
 fn digit_of(byte: u8) -> u8 {
     match byte {
         b'0'..=b'9' => byte - b'0',
@@ -180,7 +180,7 @@ fn digit_of(byte: u8) -> u8 {
     }
 }
 
-/// Appends bytes as a script has them.
+/// Appends bytes in the notation of scripts.
 fn push_bytes(out: &mut String, bytes: &[u8]) -> Result<(), AllocError> {
     for byte in bytes {
         match *byte {
@@ -193,14 +193,14 @@ fn push_bytes(out: &mut String, bytes: &[u8]) -> Result<(), AllocError> {
     Ok(())
 }
 
-/// Bytes as a script has them.
+/// Bytes in the notation of scripts.
 fn text_of(alloc: Global, bytes: &[u8]) -> Result<String, AllocError> {
     let mut text = String::new(alloc);
     push_bytes(&mut text, bytes)?;
     Ok(text)
 }
 
-/// Appends the words of a command, with a blank before each but the first; nothing if it is none.
+/// Appends the words of a command, with a blank before each but the first; nothing if it is no command.
 fn push_command(alloc: Global, out: &mut String, command: Reply) -> Result<(), AllocError> {
     let Some(words) = command_words(alloc, command)? else {
         return Ok(());
@@ -214,7 +214,7 @@ fn push_command(alloc: Global, out: &mut String, command: Reply) -> Result<(), A
     Ok(())
 }
 
-/// Commands, with ` | ` after each but the last; and what is no whole command, as it is.
+/// Commands as text, with ` | ` after each but the last; then the bytes that are no complete command.
 fn commands_text(alloc: Global, bytes: &[u8]) -> Result<String, AllocError> {
     let mut text = String::new(alloc);
     let mut rest = bytes;
@@ -275,7 +275,7 @@ fn told(
     answered(alloc, server, 0, session, words)
 }
 
-/// Tells a server commands.
+/// Runs commands on a server, and prints the replies.
 fn tell_all(
     alloc: Global,
     server: &mut Server,
@@ -290,7 +290,7 @@ fn tell_all(
     Ok(())
 }
 
-/// Plays commands to a server of its own.
+/// Runs commands on a server of its own.
 fn play_commands(
     alloc: Global,
     words: &str,
@@ -315,7 +315,7 @@ fn answers_to(alloc: Global, bytes: &[u8]) -> Result<String, AllocError> {
     Ok(text)
 }
 
-/// Plays clients of servers of their own.
+/// Plays clients, each with a server of its own.
 fn play_bytes(alloc: Global, lines: &str, out: &mut String) -> Result<(), AllocError> {
     for line in lines.lines() {
         let answer = answers_to(alloc, &bytes_of(alloc, line)?)?;

@@ -2,14 +2,14 @@
 //!
 //! | Line | What happens |
 //! |---|---|
-//! | `rounds 5` | so many rounds, to the first that breaks off |
-//! | `send` | what is in the outbox is sent |
-//! | `commit` | the handler is to commit |
-//! | `killed` | the worker and its outbox are gone, and another worker begins |
+//! | `rounds 5` | 5 rounds, up to the first that fails |
+//! | `send` | the entries in the outbox are sent |
+//! | `commit` | the handler commits |
+//! | `killed` | the worker and its outbox are dropped, and another worker starts |
 //! | another | a command to the server |
 //!
-//! Each has a connection of its own. With `writes 170` at its end it breaks after so many bytes were
-//! written, and with `reads 136` after so many were read.
+//! Each line has a connection of its own. With `writes 170` at its end the connection breaks after 170 bytes
+//! were written, and with `reads 136` after 136 bytes were read.
 //!
 //! The work adds the id of each entry to the stream `out`, and counts its commits. An entry with a field
 //! `leave` is left pending.
@@ -28,7 +28,7 @@ use std::io::{ErrorKind, Read, Write};
 use worker::outbox::{OutboxError, PostError, Posting};
 use worker::{Handler, MakeGroup, NotCommitted, RequestError, RunError, Worker};
 
-/// Plays a worker with an outbox; false if the script is another one.
+/// Plays a worker with an outbox. Returns `false` if the script is another one.
 pub fn play(
     alloc: Global,
     name: &str,
@@ -54,7 +54,7 @@ struct Side {
     posting: Posting<Tells>,
 }
 
-/// A worker that begins.
+/// A new worker.
 fn begun(alloc: Global) -> Result<Side, AllocError> {
     let mut settings = settings_for(alloc, "k", "ann")?;
     settings.set_make_group(MakeGroup::FromTheFirst);
@@ -77,7 +77,7 @@ fn play_lines(alloc: Global, lines: &str, out: &mut String) -> Result<(), AllocE
     Ok(())
 }
 
-/// Does what a line says, over a new connection.
+/// Does what a line asks for, over a new connection.
 fn done(
     alloc: Global,
     loopback: &Loopback,
@@ -96,7 +96,7 @@ fn done(
     done_between(alloc, reader, writer, side, line)
 }
 
-/// Does what a line says, over a connection of these ends.
+/// Does what a line asks for, over a connection of these ends.
 fn done_between<R: Read + Drop, W: Write + Drop>(
     alloc: Global,
     reader: R,
@@ -108,7 +108,7 @@ fn done_between<R: Read + Drop, W: Write + Drop>(
     done_over(alloc, &mut connection, side, line)
 }
 
-/// Does what a line says, over a connection.
+/// Does what a line asks for, over a connection.
 fn done_over<R: Read + Drop, W: Write + Drop>(
     alloc: Global,
     connection: &mut Connection<R, W>,
@@ -128,7 +128,7 @@ fn done_over<R: Read + Drop, W: Write + Drop>(
     }
 }
 
-/// Makes so many rounds, to the first that breaks off.
+/// Makes this number of rounds, up to the first that fails.
 fn turned<R: Read + Drop, W: Write + Drop>(
     alloc: Global,
     connection: &mut Connection<R, W>,
@@ -145,7 +145,7 @@ fn turned<R: Read + Drop, W: Write + Drop>(
     format!(in alloc; "{most} rounds, {commits} commits")
 }
 
-/// Makes a round: why it broke off, None if it did not.
+/// Makes a round. Returns why it failed, or `None` if it did not.
 fn broken<R: Read + Drop, W: Write + Drop>(
     alloc: Global,
     connection: &mut Connection<R, W>,
@@ -162,7 +162,7 @@ fn broken<R: Read + Drop, W: Write + Drop>(
     }
 }
 
-/// Sends what is in the outbox.
+/// Sends the entries in the outbox.
 fn sent<R: Read + Drop, W: Write + Drop>(
     alloc: Global,
     connection: &mut Connection<R, W>,
@@ -198,7 +198,7 @@ fn answered<R: Read + Drop, W: Write + Drop>(
     }
 }
 
-/// Why a round broke off before anything was posted; an `Err` if memory ran out.
+/// Why a round failed before anything was posted; an `Err` if memory ran out.
 fn round_text(alloc: Global, error: &RunError) -> Result<String, AllocError> {
     match error {
         RunError::Request(RequestError::NotCommitted) => format!(in alloc; "{error}"),
@@ -220,7 +220,7 @@ fn left_text(alloc: Global, error: &OutboxError) -> Result<String, AllocError> {
     }
 }
 
-/// Whether a connection broke as a script said.
+/// Whether a connection broke as a script demands.
 fn is_broken(error: &ConnectionError) -> bool {
     match error {
         ConnectionError::Write(cause) => cause.kind() == ErrorKind::BrokenPipe,

@@ -1,14 +1,14 @@
-//! Sessions of a producer of records in memory.
+//! Scripts of a producer of records in memory.
 //!
-//! The words of the head are the base, the batch, and how many records there are. A line is one of these:
+//! The words of the first line are the base, the batch, and the count of records. A line is one of these:
 //!
 //! | Line | What is done |
 //! |---|---|
-//! | `ask` | it requests, and the bytes are printed |
+//! | `ask` | it makes its next request, and the bytes are printed |
 //! | `cut` | its connection is closed |
-//! | another | bytes of replies, which it takes |
+//! | another | bytes of replies, which it reads |
 //!
-//! After what comes of a line are the stage of the producer, and how many replies are still to come.
+//! The result of a line is followed by the stage of the producer, and the count of replies still to come.
 ghost use Rattle.std.specs.Prelude.{◌≡◌, IfOk, IsTrue};
 ghost use Rattle.test_sessions.specs.Scripts.{is_producer_script};
 
@@ -17,7 +17,7 @@ use redis_wire::{Decoded, Limits, Reply, WireError, decode};
 use std::alloc::{AllocError, Global};
 use worker_producer::{FeedError, Producer, Record, RequestError, Settings};
 
-/// Plays a session of a producer; false if the script is another one.
+/// Plays a producer. Returns `false` if the script is another one.
 pub fn play(
     alloc: Global,
     name: &str,
@@ -43,7 +43,7 @@ struct Feed {
     records: Vec<Record>,
 }
 
-/// Plays a session, of no line if its settings are none.
+/// Plays the lines of a script, or none if its settings are refused.
 fn play_session(
     alloc: Global,
     words: &str,
@@ -70,7 +70,7 @@ fn play_session(
     }
 }
 
-/// So many records, of one field each.
+/// Returns `count` records, of one field each.
 fn records_of(alloc: Global, count: usize) -> Result<Vec<Record>, AllocError> {
     let mut records = Vec::new(alloc);
     for number in 0..count {
@@ -110,7 +110,7 @@ fn play_step(
     push_exchange(out, line, text.as_str())
 }
 
-/// Does what a line says.
+/// Does what a line asks for.
 fn done(alloc: Global, line: &str, feed: &mut Feed) -> Result<String, AllocError> {
     match line {
         "ask" => asked(alloc, feed),
@@ -122,7 +122,7 @@ fn done(alloc: Global, line: &str, feed: &mut Feed) -> Result<String, AllocError
     }
 }
 
-/// What the producer asks.
+/// The next request of the producer.
 fn asked(alloc: Global, feed: &mut Feed) -> Result<String, AllocError> {
     let mut bytes = Vec::new(alloc);
     match feed.producer.request(alloc, &mut bytes, &mut feed.records) {
@@ -136,7 +136,7 @@ fn asked(alloc: Global, feed: &mut Feed) -> Result<String, AllocError> {
     }
 }
 
-/// What comes of replies.
+/// The results of replies.
 fn told(alloc: Global, line: &str, feed: &mut Feed) -> Result<String, AllocError> {
     let bytes = bytes_of(alloc, line)?;
     let mut rest = bytes.as_slice();
@@ -154,7 +154,7 @@ fn told(alloc: Global, line: &str, feed: &mut Feed) -> Result<String, AllocError
     Ok(text)
 }
 
-/// Appends what comes of a reply.
+/// Appends the result of a reply.
 fn push_taken(
     alloc: Global,
     reply: Reply,

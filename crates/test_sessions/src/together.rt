@@ -1,17 +1,17 @@
 //! Workers over a server in memory. Each byte goes through the codec on both sides: commands are
-//! written by the worker and read by the server, replies are written, read and written again, as a
-//! proxy passes them on, and read by the worker, by value and in place in turn.
+//! written by the worker and read by the server. Replies are written by the server, read and written
+//! again as by a proxy, and read by the worker, alternately by value and in place.
 //!
-//! A head has many sessions, and each has a fault at another place; after it all entries have to be
+//! A first line selects many runs, and each has a fault at another point. At its end all entries have to be
 //! handled, and nothing may be pending:
 //!
-//! | Head | The sessions |
+//! | First line | The runs |
 //! |---|---|
-//! | `cuts 2` | the connection breaks after each byte of a session, in either direction |
+//! | `cuts 2` | the connection breaks after each byte of a run, in either direction |
 //! | `crashes 2 60` | the worker crashes after 0, 1, 2 .. steps |
 //! | `gone 2 30` | one of two workers is gone for good after 0, 1, 2 .. steps |
 //! | `schedules 1000` | two workers, 16 moves at random, faults among them, for each seed |
-//! | `settles 2 3` | one, with no fault but what refuses memory; two workers, so many entries |
+//! | `settles 2 3` | one run, with no fault but refused memory; two workers, 3 entries |
 ghost use Rattle.std.specs.Prelude.{◌≡◌, IfOk, IsTrue};
 ghost use Rattle.test_sessions.specs.Scripts.{is_together_script};
 
@@ -25,7 +25,7 @@ use worker::{
     Worker, WorkerError,
 };
 
-/// Plays workers over a server in memory; false if the script is another one.
+/// Plays workers over a server in memory. Returns `false` if the script is another one.
 pub fn play(
     alloc: Global,
     name: &str,
@@ -44,7 +44,7 @@ pub fn play(
     }
 }
 
-/// A session whose connection breaks after so many bytes.
+/// A run whose connection breaks after `bytes` bytes.
 fn cut(alloc: Global, protocol: Protocol, bytes: usize) -> Result<Played, AllocError> {
     let mut world = world_of(alloc, protocol, &["ann"], 2)?;
     for line in world.lines.iter_mut() {
@@ -53,7 +53,7 @@ fn cut(alloc: Global, protocol: Protocol, bytes: usize) -> Result<Played, AllocE
     settled(alloc, &mut world)
 }
 
-/// A session whose worker crashes after so many steps.
+/// A run whose worker crashes after `steps` steps.
 fn crash(alloc: Global, protocol: Protocol, steps: usize) -> Result<Played, AllocError> {
     let mut world = world_of(alloc, protocol, &["ann"], 5)?;
     for line in world.lines.iter_mut() {
@@ -62,8 +62,8 @@ fn crash(alloc: Global, protocol: Protocol, steps: usize) -> Result<Played, Allo
     settled(alloc, &mut world)
 }
 
-/// A session whose first worker is gone for good after so many steps, and the other one claims what
-/// it left.
+/// A run whose first worker is gone for good after `steps` steps, and the other one claims its
+/// pending entries.
 fn gone(alloc: Global, protocol: Protocol, steps: usize) -> Result<Played, AllocError> {
     let mut world = world_of(alloc, protocol, &["ann", "bob"], 6)?;
     for line in world.lines.iter_mut().take(1) {
@@ -81,13 +81,13 @@ fn gone(alloc: Global, protocol: Protocol, steps: usize) -> Result<Played, Alloc
     Ok(played)
 }
 
-/// A session of two workers with so many entries.
+/// A run of two workers with `entries` entries.
 fn settling(alloc: Global, protocol: Protocol, entries: usize) -> Result<Played, AllocError> {
     let mut world = world_of(alloc, protocol, &["ann", "bob"], entries)?;
     settled(alloc, &mut world)
 }
 
-/// The session of this number.
+/// The run with this number.
 fn session(
     alloc: Global,
     name: &str,
@@ -102,7 +102,7 @@ fn session(
     }
 }
 
-/// How many sessions there are: as many as a session has bytes that is not cut, or as the head says.
+/// The number of runs: the number of bytes of a run without a fault, or the number in the first line.
 fn count_of(
     alloc: Global,
     name: &str,
@@ -117,7 +117,7 @@ fn count_of(
     Ok(number_of(word))
 }
 
-/// Plays sessions, and says what they came to.
+/// Plays runs, and prints their outcome.
 fn play_sessions(
     alloc: Global,
     name: &str,
@@ -139,7 +139,7 @@ fn play_sessions(
     push_line(out, tally.text(alloc)?.as_str())
 }
 
-/// Whether a session came to its end.
+/// Whether a run settled, as text.
 fn settled_text(is_settled: bool) -> &'static str {
     if is_settled {
         "all is handled, and nothing is pending"
@@ -148,36 +148,36 @@ fn settled_text(is_settled: bool) -> &'static str {
     }
 }
 
-// What many sessions came to.
+// The outcome of many runs.
 
-/// What a session came to.
+/// The outcome of a run.
 #[derive(Clone, Copy)]
 struct Played {
     /// Whether all entries were handled, nothing is pending, and no reply was refused.
     is_settled: bool,
-    /// How often a connection broke or a worker crashed.
+    /// How many times a connection broke or a worker crashed.
     breaks: usize,
-    /// How many bytes a connection let through that did not break.
+    /// The number of bytes that passed through a connection that did not break.
     bytes: usize,
-    /// Whether a worker that is gone left something.
+    /// Whether a worker that is gone left entries pending.
     has_left: bool,
 }
 
-/// What many sessions came to.
+/// The outcome of many runs.
 #[derive(Drop)]
 struct Tally {
     sessions: usize,
     breaks: usize,
-    /// How many sessions had just one break.
+    /// The number of runs with exactly one break.
     broken_once: usize,
     left: usize,
     settled: usize,
-    /// The numbers of those that did not settle.
+    /// The numbers of the runs that did not settle.
     unsettled: String,
 }
 
 impl Tally {
-    /// No session yet.
+    /// The outcome of no runs.
     fn new(alloc: Global) -> Tally {
         Tally {
             sessions: 0,
@@ -189,7 +189,7 @@ impl Tally {
         }
     }
 
-    /// One session more.
+    /// Adds a run.
     fn add(&mut self, alloc: Global, number: usize, played: Played) -> Result<(), AllocError> {
         self.sessions = self.sessions.saturating_add(1);
         self.breaks = self.breaks.saturating_add(played.breaks);
@@ -205,7 +205,7 @@ impl Tally {
         Ok(())
     }
 
-    /// What they came to, on one line.
+    /// The outcome, on one line.
     fn text(&self, alloc: Global) -> Result<String, AllocError> {
         format!(in alloc;
             "{} sessions, {} settled; {} breaks, {} sessions with one; {} left something{}",
@@ -223,7 +223,7 @@ impl Tally {
 
 const ENTRIES: usize = 6;
 
-/// So many turns after the last fault are enough for every entry.
+/// This number of turns after the last fault is enough for every entry.
 const TURNS: usize = 60;
 
 /// A server with some entries, and workers.
@@ -236,7 +236,7 @@ struct World {
     lines: Vec<Line>,
 }
 
-/// A server with so many entries and workers of these names.
+/// A server with this number of entries and with workers of these names.
 fn world_of(
     alloc: Global,
     protocol: Protocol,
@@ -259,13 +259,13 @@ fn world_of(
     Ok(world)
 }
 
-/// The reply of the server to a command that no worker asks.
+/// The reply of the server to a command that no worker sends.
 fn command(alloc: Global, world: &mut World, line: &str) -> Result<Vec<u8>, AllocError> {
     let mut session = Session::new(alloc, Protocol::Resp2);
     told(alloc, &mut world.server, &mut session, line)
 }
 
-/// One more entry.
+/// Adds one entry.
 fn add(alloc: Global, world: &mut World) -> Result<(), AllocError> {
     let number = world.added;
     let line = format!(in alloc; "XADD k {number}-1 n {number}")?;
@@ -274,7 +274,7 @@ fn add(alloc: Global, world: &mut World) -> Result<(), AllocError> {
     Ok(())
 }
 
-/// An entry is deleted, if it was added.
+/// Deletes an entry, if it was added.
 fn delete(alloc: Global, world: &mut World, number: usize) -> Result<(), AllocError> {
     if number < world.added {
         let line = format!(in alloc; "XDEL k {number}-1")?;
@@ -286,13 +286,13 @@ fn delete(alloc: Global, world: &mut World, number: usize) -> Result<(), AllocEr
     Ok(())
 }
 
-/// Whether something is pending for the worker ann.
+/// Whether entries are pending for the worker ann.
 fn left_by_ann(alloc: Global, world: &mut World) -> Result<bool, AllocError> {
     let left = command(alloc, world, "XPENDING k g - + 10 ann")?;
     Ok(!left.starts_with(b"*0"))
 }
 
-/// Every worker has a turn.
+/// Gives every worker a turn.
 fn round(alloc: Global, world: &mut World) {
     for line in world.lines.iter_mut() {
         world.now = world.now.saturating_add(1);
@@ -312,7 +312,7 @@ fn is_done(alloc: Global, world: &mut World) -> Result<bool, AllocError> {
     Ok(pending.starts_with(b"*4\r\n:0\r\n"))
 }
 
-/// Turns without a fault that is new, until all is done; whether it is.
+/// Gives turns without a new fault until all is done. Returns whether it is.
 fn settles(alloc: Global, world: &mut World) -> Result<bool, AllocError> {
     for _ in 0..TURNS {
         if is_done(alloc, world)? {
@@ -323,7 +323,7 @@ fn settles(alloc: Global, world: &mut World) -> Result<bool, AllocError> {
     Ok(false)
 }
 
-/// What a session comes to.
+/// The outcome of a run.
 fn settled(alloc: Global, world: &mut World) -> Result<Played, AllocError> {
     let is_settled = settles(alloc, world)?;
     let mut breaks = 0usize;
@@ -342,18 +342,18 @@ fn settled(alloc: Global, world: &mut World) -> Result<Played, AllocError> {
 
 // A worker and its connection to the server.
 
-/// What is left for so many milliseconds is claimed; a turn takes one.
+/// An entry that is pending for this number of milliseconds is claimed; a turn takes one.
 const IDLE: usize = 4;
 
-/// What the handler of a worker did with the entries `n-1`, each of which has the field `n`.
+/// The record of a worker's handler on the entries `n-1`, each of which has the field `n`.
 #[derive(Drop)]
 struct Book {
-    /// Done and not committed: a crash takes it back.
+    /// Done and not committed: a crash undoes it.
     loose: [bool; ENTRIES],
     committed: [bool; ENTRIES],
-    /// Whether it was given what nobody added.
+    /// Whether it was given an entry that was not added.
     is_foreign: bool,
-    /// What it says of the next entry; it does those that follow.
+    /// The verdict on the next entry; those after it are done.
     says: Verdict,
     /// Whether the next commit fails.
     refuses: bool,
@@ -410,24 +410,24 @@ struct Line {
     book: Book,
     worker: Worker,
     session: Session,
-    /// Bytes of commands that the server has.
+    /// Bytes of commands that the server received.
     commands: ReplyStream,
-    /// Bytes of replies that the worker has.
+    /// Bytes of replies that the worker received.
     answers: ReplyStream,
-    /// After so many bytes, in either direction, the connection breaks.
+    /// The connection breaks after this number of bytes, in either direction.
     bytes: usize,
-    /// After so many steps the worker crashes.
+    /// The worker crashes after this number of steps.
     steps: usize,
-    /// How often it broke or crashed.
+    /// How many times the connection broke or the worker crashed.
     breaks: usize,
     is_down: bool,
-    /// Whether it comes back.
+    /// Whether the worker never comes back.
     is_gone: bool,
-    /// Whether it asked too much, or a reply of the server was refused.
+    /// Whether a command was too long, or a reply of the server was refused.
     is_refused: bool,
 }
 
-/// Whether something went otherwise than it may, with any of them.
+/// Whether a worker refused a reply, sent too long a command, or got an entry that was not added.
 fn is_any_wrong(lines: &[Line]) -> bool {
     for line in lines {
         if line.is_refused || line.book.is_foreign {
@@ -437,7 +437,7 @@ fn is_any_wrong(lines: &[Line]) -> bool {
     false
 }
 
-/// Whether any of them is down.
+/// Whether any worker is down.
 fn is_any_down(lines: &[Line]) -> bool {
     for line in lines {
         if line.is_down {
@@ -447,7 +447,7 @@ fn is_any_down(lines: &[Line]) -> bool {
     false
 }
 
-/// Whether any worker committed the entry of this number.
+/// Whether any worker committed the entry with this number.
 fn is_committed(lines: &[Line], number: usize) -> bool {
     for line in lines {
         if line.book.committed.get(number) == Some(&true) {
@@ -457,7 +457,7 @@ fn is_committed(lines: &[Line], number: usize) -> bool {
     false
 }
 
-/// A worker that begins.
+/// A new worker.
 fn worker_of(alloc: Global, consumer: &str) -> Result<Worker, AllocError> {
     let mut settings = settings_for(alloc, "k", consumer)?;
     settings.set_count(2).unwrap_or(());
@@ -491,8 +491,8 @@ fn line_of(alloc: Global, consumer: &'static str, protocol: Protocol) -> Result<
     })
 }
 
-/// The worker starts again over a new connection: what it did and did not commit is taken back, and
-/// bytes that were under way are lost.
+/// The worker restarts over a new connection: its uncommitted work is undone, and bytes in transit
+/// are lost.
 fn start_again(alloc: Global, line: &mut Line) -> Result<(), AllocError> {
     line.worker = worker_of(alloc, line.consumer)?;
     line.commands = ReplyStream::new(alloc, Limits::default());
@@ -504,7 +504,7 @@ fn start_again(alloc: Global, line: &mut Line) -> Result<(), AllocError> {
     Ok(())
 }
 
-/// The worker asks once, and takes the reply.
+/// The worker sends a command, and takes the reply.
 fn turn(alloc: Global, server: &mut Server, now: u64, line: &mut Line) {
     if line.is_down && (line.is_gone || start_again(alloc, line).is_err()) {
         return;
@@ -515,12 +515,12 @@ fn turn(alloc: Global, server: &mut Server, now: u64, line: &mut Line) {
     }
 }
 
-/// One question and its reply; false if the connection broke or the worker crashed on the way,
-/// or memory was refused to the one or the other.
+/// One command and its reply. Returns `false` if the connection broke or the worker crashed meanwhile,
+/// or memory was refused to either side.
 fn exchange(alloc: Global, server: &mut Server, now: u64, line: &mut Line) -> bool {
     let mut question = Vec::new(alloc);
     if let Err(error) = line.worker.request(alloc, &mut question, &mut line.book) {
-        // it asks the same again
+        // it makes the same request again
         line.is_refused = line.is_refused || error == RequestError::TooLong;
         return true;
     }
@@ -536,7 +536,7 @@ fn exchange(alloc: Global, server: &mut Server, now: u64, line: &mut Line) -> bo
     hears(alloc, line) && goes_on(line)
 }
 
-/// One step more; false if the worker crashes.
+/// Takes one step. Returns `false` if the worker crashes.
 fn goes_on(line: &mut Line) -> bool {
     if line.steps == 0 {
         return false;
@@ -545,14 +545,14 @@ fn goes_on(line: &mut Line) -> bool {
     true
 }
 
-/// As many of the bytes come as the connection lets through; false if memory is refused.
+/// Delivers the bytes that the connection lets through. Returns `false` if memory is refused.
 fn passes(stream: &mut ReplyStream, left: &mut usize, bytes: &[u8]) -> bool {
     let len = bytes.len().min(*left);
     *left -= len;
     stream.feed(&bytes[..len]).is_ok()
 }
 
-/// The reply of the server, if the command came whole.
+/// The reply of the server, if the command is complete.
 fn answer_of(alloc: Global, server: &mut Server, now: u64, line: &mut Line) -> Option<Vec<u8>> {
     let Ok(Some(command)) = line.commands.next(alloc) else {
         return None;
@@ -564,7 +564,7 @@ fn answer_of(alloc: Global, server: &mut Server, now: u64, line: &mut Line) -> O
     passed_on(alloc, line.session.protocol, &bytes)
 }
 
-/// The bytes of a reply as a proxy writes them that has read it.
+/// The bytes of a reply as written by a proxy that has read it.
 fn passed_on(alloc: Global, protocol: Protocol, bytes: &[u8]) -> Option<Vec<u8>> {
     let protocol = match protocol {
         Protocol::Resp2 => redis_wire::Protocol::Resp2,
@@ -580,7 +580,7 @@ fn passed_on(alloc: Global, protocol: Protocol, bytes: &[u8]) -> Option<Vec<u8>>
     }
 }
 
-/// The worker takes a reply, if one came whole: by value or in place, each in turn, more or less.
+/// The worker takes a reply, if one is complete: by value or in place, roughly in alternation.
 fn hears(alloc: Global, line: &mut Line) -> bool {
     if line.steps % 2 == 0 {
         hears_in_place(alloc, line)
@@ -644,14 +644,14 @@ fn hears_in_place(alloc: Global, line: &mut Line) -> bool {
 
 const MOVES: usize = 16;
 
-/// The next number of a sequence that looks random.
+/// The next number of a pseudo-random sequence.
 fn next(state: u64) -> u64 {
     state
         .wrapping_mul(6_364_136_223_846_793_005)
         .wrapping_add(1_442_695_040_888_963_407)
 }
 
-/// A fault that the worker meets in its next turns.
+/// Plants a fault that the worker meets in its next turns.
 fn plant(line: &mut Line, kind: u64, size: usize) {
     match kind {
         0 | 1 => line.bytes = size % 300,
@@ -679,7 +679,7 @@ fn take_turn(alloc: Global, world: &mut World, who: usize, kind: u64, size: usiz
     }
 }
 
-/// The move that a number says.
+/// Makes the move that a number selects.
 fn make_move(alloc: Global, world: &mut World, state: u64) -> Result<(), AllocError> {
     let choice = (state >> 33) % 16;
     let size = (state >> 45) % 1_024;
@@ -700,7 +700,7 @@ fn make_move(alloc: Global, world: &mut World, state: u64) -> Result<(), AllocEr
     }
 }
 
-/// A session with moves in an order that the seed says: RESP2 for an even one, RESP3 else.
+/// A run with moves in an order that the seed selects: RESP2 for an even one, RESP3 else.
 fn played_moves(alloc: Global, seed: usize) -> Result<Played, AllocError> {
     let protocol = if seed % 2 == 0 {
         Protocol::Resp2

@@ -1,20 +1,20 @@
-//! Sessions of a worker: what it asks, and what its handler sees.
+//! Scripts of a worker: the commands that it sends, and the entries that its handler gets.
 //!
-//! The words of the head are settings: `count 2`, `block 0`, `idle 4`, `every 2`, `group first` or
-//! `group now`, and `again one` for entries that come again one at a time. A line is one of these:
+//! The words of the first line are settings: `count 2`, `block 0`, `idle 4`, `every 2`, `group first` or
+//! `group now`, and `again one` for entries that are read again one at a time. A line is one of these:
 //!
-//! | Line | What is done |
+//! | Line | Its effect |
 //! |---|---|
-//! | bytes of a reply | it asks, and hears these bytes |
-//! | `ask` | it asks |
-//! | `tell` and bytes | it hears these bytes |
-//! | `fronts` and bytes | it hears each front of them |
-//! | `says done leave stop` | what the handler says of the next entries; `done` after these |
+//! | bytes of a reply | the worker makes its next request, and reads these bytes |
+//! | `ask` | it makes its next request |
+//! | `tell` and bytes | it reads these bytes |
+//! | `fronts` and bytes | it reads each proper prefix of them |
+//! | `says done leave stop` | the verdicts of the handler on the next entries; `done` after these |
 //! | `refuses yes` | commits fail, until `refuses no` |
-//! | `resumes 1-1 2-1` | in its place comes a worker that acknowledges these first, with no settings |
+//! | `resumes 1-1 2-1` | another worker replaces it, which first acknowledges these, with no settings |
 //!
-//! All is done twice: by a worker that hears replies by value, and by one that hears them in
-//! place. Where they differ, both are shown.
+//! All is done twice: by a worker that reads replies by value, and by one that reads them in
+//! place. If the results differ, both are printed.
 ghost use Rattle.std.specs.Prelude.{◌≡◌, IfOk, IsTrue};
 ghost use Rattle.test_sessions.specs.Scripts.{is_worker_script};
 
@@ -33,7 +33,7 @@ use worker::{
     RequestError, Settings, Verdict, Worker, WorkerError,
 };
 
-/// Plays a session of a worker; false if the script is another one.
+/// Plays a worker. Returns `false` if the script is another one.
 pub fn play(
     alloc: Global,
     name: &str,
@@ -52,7 +52,7 @@ pub fn play(
     }
 }
 
-/// The limits of what comes.
+/// The limits of the replies.
 const LIMITS: Limits = Limits {
     depth: 8,
     length: 1000,
@@ -77,7 +77,7 @@ struct Side {
 }
 
 impl Side {
-    /// A worker that begins.
+    /// A new worker.
     fn new(alloc: Global, words: &str, way: Way) -> Result<Side, AllocError> {
         Ok(Side {
             worker: Worker::new(alloc, settings_of(alloc, words)?),
@@ -87,7 +87,7 @@ impl Side {
     }
 }
 
-/// The settings that words say.
+/// The settings in these words.
 fn settings_of(alloc: Global, words: &str) -> Result<Settings, AllocError> {
     let mut settings = settings_for(alloc, "k", "c")?;
     let mut rest = words;
@@ -114,7 +114,7 @@ fn set(settings: &mut Settings, name: &str, word: &str) {
     }
 }
 
-/// What a worker asks.
+/// The next request of a worker.
 fn asked(alloc: Global, worker: &mut Worker, doer: &mut Doer) -> Result<String, AllocError> {
     let mut bytes = Vec::new(alloc);
     let outcome = worker.request(alloc, &mut bytes, doer);
@@ -129,7 +129,7 @@ fn asked(alloc: Global, worker: &mut Worker, doer: &mut Doer) -> Result<String, 
     }
 }
 
-/// What comes of the reply at the head of bytes.
+/// The result of the reply at the start of bytes.
 fn taken(
     alloc: Global,
     worker: &mut Worker,
@@ -158,7 +158,7 @@ fn error_text(alloc: Global, answer: &AnswerError) -> Result<String, AllocError>
     }
 }
 
-/// What a reply came to.
+/// The result of a reply, as text.
 fn progress_text(
     alloc: Global,
     outcome: &Result<Progress, InPlaceError>,
@@ -171,7 +171,7 @@ fn progress_text(
     }
 }
 
-/// Has a worker hear bytes: what comes of it, and the phase of the worker then.
+/// Has a worker read bytes. Returns the result, and the last request of the worker after it.
 fn told(
     alloc: Global,
     worker: &mut Worker,
@@ -186,18 +186,18 @@ fn told(
     Ok(text)
 }
 
-/// Tells the worker of a side bytes.
+/// Has the worker of a side read bytes.
 fn told_side(alloc: Global, side: &mut Side, bytes: &[u8]) -> Result<String, AllocError> {
     told(alloc, &mut side.worker, &mut side.doer, side.way, bytes)
 }
 
-/// Tells it the bytes that a text is.
+/// Has it read the bytes of a text.
 fn told_text(alloc: Global, side: &mut Side, text: &str) -> Result<String, AllocError> {
     let bytes = bytes_of(alloc, text)?;
     told_side(alloc, side, &bytes)
 }
 
-/// Tells a worker each front of bytes: what comes of it, and for how many of them.
+/// Has a worker read each proper prefix of bytes. Returns the results, and the count of prefixes.
 fn told_fronts(alloc: Global, side: &mut Side, text: &str) -> Result<String, AllocError> {
     let bytes = bytes_of(alloc, text)?;
     let mut spans = Spans::new(alloc);
@@ -208,7 +208,7 @@ fn told_fronts(alloc: Global, side: &mut Side, text: &str) -> Result<String, All
     spans.finished(alloc)
 }
 
-/// The texts of the numbers from 0 on: each with the first of those in a row that have it.
+/// The texts of the numbers from 0 on; equal texts in a row are printed once, with their first number.
 #[derive(Drop)]
 struct Spans {
     text: String,
@@ -217,7 +217,7 @@ struct Spans {
 }
 
 impl Spans {
-    /// None yet.
+    /// No numbers yet.
     fn new(alloc: Global) -> Spans {
         Spans {
             text: String::new(alloc),
@@ -226,7 +226,7 @@ impl Spans {
         }
     }
 
-    /// One more number, and its text.
+    /// Adds the next number, and its text.
     fn add(&mut self, alloc: Global, text: String) -> Result<(), AllocError> {
         if self.last.as_str() != text.as_str() {
             let line = format!(in alloc; "{}: {}\n", self.count, text.as_str())?;
@@ -237,7 +237,7 @@ impl Spans {
         Ok(())
     }
 
-    /// The texts, and how many numbers there are.
+    /// The texts, and the count of numbers.
     fn finished(self, alloc: Global) -> Result<String, AllocError> {
         let mut text = self.text;
         text.push_str(format!(in alloc; "{} in all", self.count)?.as_str())?;
@@ -260,7 +260,7 @@ fn instructed(
     Ok(String::new(alloc))
 }
 
-/// In place of a side's worker comes one that acknowledges these entries first.
+/// Replaces a side's worker with one that acknowledges these entries first.
 fn resumed(alloc: Global, side: &mut Side, ids: &str) -> Result<String, AllocError> {
     let mut committed = Vec::new(alloc);
     for id in ids.split(' ') {
@@ -270,7 +270,7 @@ fn resumed(alloc: Global, side: &mut Side, ids: &str) -> Result<String, AllocErr
     Ok(String::new(alloc))
 }
 
-/// Does what a line says.
+/// Does what a line asks for.
 fn done(alloc: Global, side: &mut Side, verb: &str, rest: &str) -> Result<String, AllocError> {
     match verb {
         "ask" => asked(alloc, &mut side.worker, &mut side.doer),
@@ -281,14 +281,14 @@ fn done(alloc: Global, side: &mut Side, verb: &str, rest: &str) -> Result<String
     }
 }
 
-/// What both workers do.
+/// Both workers.
 #[derive(Drop)]
 struct Both {
     by_value: Side,
     in_place: Side,
 }
 
-/// Has both workers do what a line says.
+/// Has both workers do what a line asks for.
 fn both_done(
     alloc: Global,
     both: &mut Both,
@@ -315,7 +315,7 @@ fn is_reply(line: &str) -> bool {
     }
 }
 
-/// Plays a session by value and in place.
+/// Plays the lines of a script by value and in place.
 fn play_session(
     alloc: Global,
     words: &str,
@@ -338,27 +338,27 @@ fn play_session(
     Ok(())
 }
 
-// A handler that says of each entry what a script says.
+// A handler whose verdicts are those of the script.
 
-/// Keeps each entry that is done as `Gathered` does, and notes what it was given.
+/// Keeps each entry that is done as `Gathered` does, and records the entries that it was given.
 #[derive(Drop)]
 struct Doer {
-    /// What is done, and what of it is committed.
+    /// The entries that are done, and those of them that are committed.
     kept: Gathered,
-    /// What it says of the next entries, the last one first; `Done` of those after them.
+    /// The verdicts on the next entries, the last one first; `Done` on those after them.
     says: Vec<Verdict>,
     /// Whether commits fail.
     refuses: bool,
-    /// How often it committed.
+    /// How many times it committed.
     commits: usize,
-    /// What it was given, and what it said.
+    /// The entries that it was given, and its verdicts.
     seen: String,
     /// Whether memory was refused to it.
     is_short: bool,
 }
 
 impl Doer {
-    /// One that does everything.
+    /// A handler that does every entry.
     fn new(alloc: Global) -> Doer {
         Doer {
             kept: Gathered::new(alloc),
@@ -370,7 +370,7 @@ impl Doer {
         }
     }
 
-    /// It says this of the next entries.
+    /// Sets the verdicts on the next entries.
     fn say(&mut self, words: &str) -> Result<(), AllocError> {
         for word in words.split(' ') {
             self.says.insert(0, verdict_of(word))?;
@@ -378,7 +378,7 @@ impl Doer {
         Ok(())
     }
 
-    /// Err if memory was refused to it.
+    /// `Err` if memory was refused to it.
     fn check(&self) -> Result<(), AllocError> {
         if self.is_short {
             Err(AllocError)
@@ -387,7 +387,7 @@ impl Doer {
         }
     }
 
-    /// What it kept, and what it was given since it was asked last.
+    /// The entries that it was given since the last call, and the counts of those that it kept.
     fn standing(&mut self, alloc: Global) -> Result<String, AllocError> {
         self.check()?;
         let text = format!(in alloc;
@@ -401,7 +401,7 @@ impl Doer {
         Ok(text)
     }
 
-    /// Notes an entry, and keeps it if it is done.
+    /// Records an entry, and keeps it if it is done.
     fn note(&mut self, alloc: Global, entry: &EntryRef<'_>) -> Result<Verdict, AllocError> {
         push_entry(&mut self.seen, entry)?;
         let verdict = self.says.pop().unwrap_or(Verdict::Done);

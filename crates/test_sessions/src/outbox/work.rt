@@ -1,4 +1,4 @@
-//! Work that tells another stream which entries were done.
+//! Work that adds the ids of the entries that were done to another stream.
 ghost use Rattle.std.specs.Prelude.{◌≡◌, [], ◌∷◌, codes, false};
 ghost use Rattle.redis_wire.specs.Packed.{command_bytes};
 ghost use Rattle.worker.specs.Outbox.Posts.{if_done};
@@ -10,14 +10,14 @@ use worker::{EntryRef, NotCommitted, Verdict};
 /// Adds the id of each entry to the stream `out`. An entry with a field `leave` is left pending.
 #[derive(Drop)]
 pub struct Tells {
-    /// How often it committed.
+    /// How many times it committed.
     pub commits: u32,
-    /// Memory ran out.
+    /// Whether memory ran out.
     pub ran_out: bool,
 }
 
 impl Tells {
-    /// Nothing was done.
+    /// Work before any entry.
     pub fn new() -> Tells
         ensures commits { result.commits ≡ 0 }
         ensures ran_out { result.ran_out ≡ false }

@@ -1,19 +1,19 @@
 //! Connections over readers and writers in memory, and a worker over one.
 //!
-//! The words of the head are sizes: for each of them all is played once, with reads of so many bytes
-//! at most. A line is one of these, or one of a worker:
+//! The words of the first line are sizes: for each of them all lines are played once, with reads of at most
+//! that number of bytes. A line is one of these, or one of a worker:
 //!
-//! | Line | What it says |
+//! | Line | Its meaning |
 //! |---|---|
-//! | `comes` and bytes | what comes in |
-//! | `reads 3 interrupted 0` | what each read does: so many bytes at most, or an error; then no byte comes |
-//! | `writes 5 broken` | what each write does |
+//! | `comes` and bytes | the bytes that arrive |
+//! | `reads 3 interrupted 0` | the result of each read: at most 3 bytes, or an error; then no byte arrives |
+//! | `writes 5 broken` | the result of each write |
 //! | `send GET k` | a command is sent |
-//! | `text GET k`, `number GET k` | a command is sent, and its reply read as a text, as a number |
+//! | `text GET k`, `number GET k` | a command is sent, and its reply is read as a text, as a number |
 //! | `receive`, `place` | a reply is received, is received in place |
-//! | `any`, `passed` | a reply of any kind is received; how many messages were passed over |
-//! | `show 5`, `give 5` | so many bytes in place are shown, are given out |
-//! | `run 7` | the worker makes so many rounds |
+//! | `any`, `passed` | a reply of any kind is received; the count of messages that were skipped |
+//! | `show 5`, `give 5` | 5 bytes in place are printed, are removed |
+//! | `run 7` | the worker makes 7 rounds |
 //! | `pipeline` | it makes a round, or two with one write |
 ghost use Rattle.std.specs.Prelude.{◌≡◌, IfOk, IsTrue};
 ghost use Rattle.test_sessions.specs.Scripts.{is_connection_script};
@@ -29,7 +29,7 @@ use std::io;
 use std::io::{ErrorKind, Read, Write};
 use worker::{Asked, Pipelined, Progress, RequestError, RunError};
 
-/// Plays a connection; false if the script is another one.
+/// Plays a connection. Returns `false` if the script is another one.
 pub fn play(
     alloc: Global,
     name: &str,
@@ -52,25 +52,25 @@ pub fn play(
     }
 }
 
-/// What a call of a reader or writer does.
+/// The effect of a call of a reader or writer.
 #[derive(Clone, Copy)]
 enum Turn {
-    /// It takes or gives so many bytes at most.
+    /// It reads or writes at most this number of bytes.
     Moves(usize),
     Fails(ErrorKind),
 }
 
-/// What the calls of a reader or writer do, one after the other.
+/// The effects of the calls of a reader or writer, one after the other.
 #[derive(Drop)]
 struct Turns {
-    /// What each call does, the last one first.
+    /// The effect of each call, the last one first.
     turns: Vec<Turn>,
-    /// How many bytes a call moves if nothing is said of calls.
+    /// The most bytes that a call without an effect of its own moves.
     most: usize,
 }
 
 impl Turns {
-    /// The most that the next call moves.
+    /// The most bytes that the next call moves.
     fn next(&mut self) -> io::Result<usize> {
         match self.turns.pop() {
             Some(Turn::Moves(most)) => Ok(most),
@@ -79,7 +79,7 @@ impl Turns {
         }
     }
 
-    /// Says what the next calls do; after them nothing is moved.
+    /// Sets the effects of the next calls; after them nothing is moved.
     fn say(&mut self, words: &str) -> Result<(), AllocError> {
         self.most = 0;
         for word in words.split(' ') {
@@ -89,7 +89,7 @@ impl Turns {
     }
 }
 
-/// The turn of this name.
+/// The effect of this name.
 fn turn_of(word: &str) -> Turn {
     match word {
         "interrupted" => Turn::Fails(ErrorKind::Interrupted),
@@ -99,7 +99,7 @@ fn turn_of(word: &str) -> Turn {
     }
 }
 
-/// Gives bytes in turns, one a call.
+/// A reader that returns bytes in turns, one a call.
 #[derive(Drop)]
 struct Source {
     bytes: Vec<u8>,
@@ -108,7 +108,7 @@ struct Source {
 }
 
 impl Source {
-    /// These bytes come too.
+    /// Adds these bytes to those that arrive.
     fn come(&mut self, alloc: Global, text: &str) -> Result<(), AllocError> {
         let mut bytes = bytes_of(alloc, text)?;
         self.bytes.append(&mut bytes)
@@ -129,7 +129,7 @@ impl Read for Source {
     }
 }
 
-/// Takes bytes in turns, one a call.
+/// A writer that accepts bytes in turns, one a call.
 #[derive(Drop)]
 struct Sink {
     bytes: Vec<u8>,
@@ -156,7 +156,7 @@ struct Ends {
 }
 
 impl Ends {
-    /// A reader of nothing that gives so many bytes at most, and a writer that takes all.
+    /// A reader of no bytes, with reads of at most `most` bytes, and a writer that accepts all.
     fn new(alloc: Global, most: usize) -> Ends {
         Ends {
             source: Source {
@@ -177,7 +177,7 @@ impl Ends {
         }
     }
 
-    /// What a line says of the reader or the writer.
+    /// Applies a line on the reader or the writer.
     fn say(&mut self, alloc: Global, line: &str) -> Result<(), AllocError> {
         match parted(line, ' ') {
             ("comes", rest) => self.source.come(alloc, rest),
@@ -196,7 +196,7 @@ fn failure_text(alloc: Global, error: &ConnectionError) -> Result<String, AllocE
     }
 }
 
-/// The name and the text of an error of a question.
+/// The name and the text of the error of a command.
 fn ask_text(alloc: Global, error: &AskError) -> Result<String, AllocError> {
     match error {
         AskError::Connection(error) => failure_text(alloc, error),
@@ -238,7 +238,7 @@ fn reply_text(alloc: Global, reply: &Reply) -> Result<String, AllocError> {
     }
 }
 
-/// What was received.
+/// The received reply, or the error.
 fn received_text(
     alloc: Global,
     received: &Result<Reply, ConnectionError>,
@@ -263,7 +263,7 @@ fn placed<R: Read + Drop, W: Write + Drop>(
     }
 }
 
-/// What rounds came to.
+/// The result of rounds, as text.
 fn run_text(alloc: Global, outcome: &Result<Progress, RunError>) -> Result<String, AllocError> {
     match outcome {
         Ok(progress) => format!(in alloc; "{progress:?}"),
@@ -275,13 +275,13 @@ fn run_text(alloc: Global, outcome: &Result<Progress, RunError>) -> Result<Strin
     }
 }
 
-/// An error of a connection, and when it came.
+/// An error of a connection, with the step that failed.
 fn kind_text(alloc: Global, kind: &str, error: &ConnectionError) -> Result<String, AllocError> {
     let text = failure_text(alloc, error)?;
     format!(in alloc; "{kind}{}", text.as_str())
 }
 
-/// An error in place of the answer to this.
+/// An error in place of the reply to this request.
 fn unanswered_text(
     alloc: Global,
     asked: Asked,
@@ -291,7 +291,7 @@ fn unanswered_text(
     format!(in alloc; "Receive: {asked}: {}", text.as_str())
 }
 
-/// The worker makes so many rounds.
+/// The worker makes this number of rounds.
 fn ran<R: Read + Drop, W: Write + Drop>(
     alloc: Global,
     link: &mut Connection<R, W>,
@@ -318,7 +318,7 @@ fn pipelined<R: Read + Drop, W: Write + Drop>(
     Ok(text)
 }
 
-/// What was asked, whether an acknowledgement went before, and how the handler goes on.
+/// The request of the round, whether an acknowledgement preceded it, and whether the handler goes on.
 fn made_text(alloc: Global, made: Pipelined) -> Result<String, AllocError> {
     let round = made.round;
     if made.acknowledged {
@@ -331,15 +331,15 @@ fn made_text(alloc: Global, made: Pipelined) -> Result<String, AllocError> {
     }
 }
 
-/// So many rounds as a word says.
+/// Parses a word as a number of rounds.
 fn rounds_of(word: &str) -> u64 {
     word.parse::<u64>().unwrap_or(0)
 }
 
-/// What a line speaks of.
+/// The subject of a line.
 #[derive(Clone, Copy)]
 enum Subject {
-    /// The reader or the writer, of which all is said at the beginning.
+    /// The reader or the writer, which were set up before the first line.
     Ends,
     Question,
     Reply,
@@ -347,7 +347,7 @@ enum Subject {
     Worker,
 }
 
-/// What a line with this word speaks of.
+/// The subject of a line with this word.
 fn subject_of(verb: &str) -> Subject {
     match verb {
         "comes" | "reads" | "writes" => Subject::Ends,
@@ -358,7 +358,7 @@ fn subject_of(verb: &str) -> Subject {
     }
 }
 
-/// Sends a command, and has the server reply.
+/// Sends a command, and may read its reply.
 fn ask<R: Read + Drop, W: Write + Drop>(
     alloc: Global,
     link: &mut Connection<R, W>,
@@ -372,7 +372,7 @@ fn ask<R: Read + Drop, W: Write + Drop>(
     }
 }
 
-/// Receives a reply, shows it or gives it out, or says how many messages were passed over.
+/// Receives a reply, prints or removes its bytes, or counts the messages that were skipped.
 fn take<R: Read + Drop, W: Write + Drop>(
     alloc: Global,
     link: &mut Connection<R, W>,
@@ -392,7 +392,7 @@ fn take<R: Read + Drop, W: Write + Drop>(
     }
 }
 
-/// Does what a line says.
+/// Does what a line asks for.
 fn do_line<R: Read + Drop, W: Write + Drop>(
     alloc: Global,
     link: &mut Connection<R, W>,
@@ -410,7 +410,7 @@ fn do_line<R: Read + Drop, W: Write + Drop>(
     }
 }
 
-/// What comes of the lines, and what was sent, with reads of so many bytes at most.
+/// The results of the lines, and the commands that were sent, with reads of at most `most` bytes.
 fn transcript_of(alloc: Global, lines: &str, most: usize) -> Result<String, AllocError> {
     let mut ends = Ends::new(alloc, most);
     for line in lines.lines() {
@@ -426,7 +426,7 @@ fn transcript_of(alloc: Global, lines: &str, most: usize) -> Result<String, Allo
     Ok(out)
 }
 
-/// Does what the lines say.
+/// Does what the lines ask for.
 fn do_lines<R: Read + Drop, W: Write + Drop>(
     alloc: Global,
     link: &mut Connection<R, W>,
@@ -458,14 +458,14 @@ fn play_sizes(alloc: Global, words: &str, lines: &str, out: &mut String) -> Resu
     Ok(())
 }
 
-/// What a session over bytes came to, and the commands that were sent.
+/// The result of a run over bytes, and the commands that were sent.
 #[derive(Drop)]
 struct Outcome {
     text: String,
     sent: Vec<u8>,
 }
 
-/// What comes of a session of so many rounds over bytes.
+/// The outcome of `rounds` rounds over these bytes.
 fn ended(alloc: Global, bytes: &[u8], rounds: u64) -> Result<Outcome, AllocError> {
     let mut sent = Vec::new(alloc);
     let mut side = Side::new(alloc, "", Way::InPlace)?;
@@ -477,7 +477,7 @@ fn ended(alloc: Global, bytes: &[u8], rounds: u64) -> Result<Outcome, AllocError
     Ok(Outcome { text, sent })
 }
 
-/// What a worker asks next.
+/// The next request of a worker.
 fn next_text(alloc: Global, side: &mut Side) -> Result<String, AllocError> {
     let mut bytes = Vec::new(alloc);
     match side.worker.request(alloc, &mut bytes, &mut side.doer) {
@@ -487,7 +487,7 @@ fn next_text(alloc: Global, side: &mut Side) -> Result<String, AllocError> {
     }
 }
 
-/// What comes of a session whose bytes end too early, beside the commands of the whole one.
+/// The outcome of a run whose bytes end too early, compared with the commands of the whole run.
 fn front_text(
     alloc: Global,
     bytes: &[u8],
@@ -504,7 +504,7 @@ fn front_text(
     Ok(text)
 }
 
-/// Plays a session over a connection that ends after each byte of what comes.
+/// Plays runs over a connection that ends after each byte of the input.
 fn play_ends(alloc: Global, words: &str, lines: &str, out: &mut String) -> Result<(), AllocError> {
     let mut input = Vec::new(alloc);
     for line in lines.lines() {

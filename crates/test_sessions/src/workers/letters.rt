@@ -1,5 +1,5 @@
-//! Dead letters. A line is `give` with an id, deliveries and a field, or a reply's bytes, before
-//! which the letters ask.
+//! Dead letters. A line is `give` with an id, deliveries and a field, or a reply's bytes, which reply
+//! to the next command of the letters.
 ghost use Rattle.std.specs.Prelude.{◌≡◌, IfOk, IsTrue};
 ghost use Rattle.test_sessions.specs.Scripts.{is_letters_script};
 
@@ -9,7 +9,7 @@ use redis_wire::{Decoded, WireError, decode};
 use std::alloc::{AllocError, Global};
 use worker::{DeadLetters, LetterError};
 
-/// Plays dead letters; false if the script is another one.
+/// Plays dead letters. Returns `false` if the script is another one.
 pub fn play(
     alloc: Global,
     name: &str,
@@ -39,7 +39,7 @@ fn gave_up(alloc: Global, letters: &mut DeadLetters, rest: &str) -> Result<Strin
     }
 }
 
-/// What the letters ask.
+/// The next request of the letters.
 fn asked(alloc: Global, letters: &mut DeadLetters) -> Result<String, AllocError> {
     let mut bytes = Vec::new(alloc);
     match letters.request(alloc, &mut bytes) {
@@ -51,7 +51,7 @@ fn asked(alloc: Global, letters: &mut DeadLetters) -> Result<String, AllocError>
     }
 }
 
-/// The name and the text of what a reply came to.
+/// The name and the text of the result of a reply.
 fn result_text(alloc: Global, outcome: &Result<(), LetterError>) -> Result<String, AllocError> {
     match outcome {
         Ok(()) => String::from_str(alloc, "Ok"),
@@ -60,7 +60,7 @@ fn result_text(alloc: Global, outcome: &Result<(), LetterError>) -> Result<Strin
     }
 }
 
-/// What comes of a reply.
+/// The result of a reply.
 fn told(alloc: Global, letters: &mut DeadLetters, line: &str) -> Result<String, AllocError> {
     match decode(alloc, &bytes_of(alloc, line)?, LIMITS) {
         Ok(Decoded::Complete { reply, len: _ }) => result_text(alloc, &letters.answered(reply)),

@@ -1,8 +1,8 @@
 //! An entry that ends the process each time that it is handled, among others: a worker with dead letters over a
 //! server in memory.
 //!
-//! The words of the head are numbers: so many deliveries are too many, so many entries there are, which of
-//! them ends the process, and how often the process is started. Each line of the transcript is a start: the
+//! The words of the first line are numbers: the limit of deliveries, the count of entries, the number of the
+//! entry that ends the process, and the count of starts. Each line of the transcript is a start: the
 //! ids that its handler was given, those that are committed after it, and those that are pending, with their
 //! counts of deliveries. The last line is the letters.
 ghost use Rattle.std.specs.Prelude.{◌≡◌, IfOk, IsTrue};
@@ -20,13 +20,13 @@ use worker::{
     Asked, EntryRef, Handler, MakeGroup, NotCommitted, Progress, Settings, Verdict, Worker,
 };
 
-/// So many rounds of a start are enough for every entry.
+/// This number of rounds of a start is enough for every entry.
 const ROUNDS: u8 = 20;
 
-/// What XPENDING says of an entry: its id, whose it is, how long it is idle, and how often it was delivered.
+/// A row of XPENDING: the id of an entry, its consumer, how long it is idle, and its count of deliveries.
 type Row = (String, Value, Value, usize);
 
-/// Plays starts of a process that an entry ends; false if the script is another one.
+/// Plays starts of a process that an entry ends. Returns `false` if the script is another one.
 pub fn play(alloc: Global, name: &str, words: &str, out: &mut String) -> Result<bool, AllocError>
     ensures { IfOk result (λ played. IsTrue played → IsTrue (is_poison_script name.now)) }
 {
@@ -44,18 +44,18 @@ pub fn play(alloc: Global, name: &str, words: &str, out: &mut String) -> Result<
 struct Fragile {
     /// The id of that entry.
     poison: String,
-    /// What this start was given.
+    /// The entries that this start was given.
     given: String,
-    /// What is done, and not committed.
+    /// The entries that are done, and not committed.
     loose: String,
-    /// What is committed, over all starts.
+    /// The entries that are committed, over all starts.
     committed: String,
     /// Whether memory was refused to it.
     is_short: bool,
 }
 
 impl Fragile {
-    /// Notes an entry, and ends if it is the one.
+    /// Records an entry, and stops if it is the poison.
     fn note(&mut self, id: &str) -> Result<Verdict, AllocError> {
         push_word(&mut self.given, id)?;
         if id == self.poison.as_str() {
@@ -65,7 +65,7 @@ impl Fragile {
         Ok(Verdict::Done)
     }
 
-    /// The process is started again: what was not committed is lost.
+    /// The process is restarted: uncommitted work is lost.
     fn starts(&mut self) {
         self.given.clear();
         self.loose.clear();
@@ -100,20 +100,20 @@ impl Handler for Fragile {
     }
 }
 
-/// Appends a word and a space in front of it.
+/// Appends a space and a word.
 fn push_word(out: &mut String, word: &str) -> Result<(), AllocError> {
     out.push(' ')?;
     out.push_str(word)
 }
 
-/// The settings of the worker: the group is made where there is none.
+/// The settings of the worker: the group is made if there is none.
 fn settings_of(alloc: Global) -> Result<Settings, AllocError> {
     let mut settings = settings_for(alloc, "k", "c")?;
     settings.set_make_group(MakeGroup::FromTheFirst);
     Ok(settings)
 }
 
-/// One more connection to the server.
+/// Opens another connection to the server.
 fn connected(
     alloc: Global,
     loopback: &Loopback,
@@ -136,7 +136,7 @@ fn asked<T: FromRedisValue, C: ToRedisArgs, R: Read + Drop, W: Write + Drop>(
     }
 }
 
-/// One start of the process, until the entry ends it or so many rounds are made.
+/// One start of the process, until the entry ends it or `ROUNDS` rounds are made.
 fn live<R: Read + Drop, W: Write + Drop>(
     alloc: Global,
     connection: &mut Connection<R, W>,
@@ -201,7 +201,7 @@ fn letters_text<R: Read + Drop, W: Write + Drop>(
     Ok(text)
 }
 
-/// A server with entries of these numbers, from 1 on.
+/// A server with `entries` entries, with the ids from `1-0` on.
 fn server_with(alloc: Global, entries: usize) -> Result<Loopback, AllocError> {
     let Ok(loopback) = Loopback::new(alloc, Server::new(alloc)) else {
         return Err(AllocError);
@@ -218,7 +218,7 @@ fn server_with(alloc: Global, entries: usize) -> Result<Loopback, AllocError> {
     Ok(loopback)
 }
 
-/// Starts the process so often, and says what came of it.
+/// Starts the process this number of times, and prints the outcome.
 fn play_starts(alloc: Global, words: &str, out: &mut String) -> Result<(), AllocError> {
     let (deliveries, rest) = parted(words, ' ');
     let (entries, rest) = parted(rest, ' ');

@@ -1,6 +1,6 @@
 //! One consumer of several streams: a worker for each, over one connection and with one handler.
 //!
-//! The words of the head are the protocol, how many turns each worker has, and the streams.
+//! The words of the first line are the protocol, the number of turns of each worker, and the streams.
 ghost use Rattle.std.specs.Prelude.{◌≡◌, IfOk, IsTrue};
 ghost use Rattle.test_sessions.specs.Scripts.{is_streams_script};
 
@@ -14,7 +14,7 @@ use server_commands::{Server, Session};
 use std::alloc::{AllocError, Global};
 use worker::{MakeGroup, Worker};
 
-/// Plays workers of several streams; false if the script is another one.
+/// Plays workers of several streams. Returns `false` if the script is another one.
 pub fn play(
     alloc: Global,
     name: &str,
@@ -51,7 +51,7 @@ fn workers_of(alloc: Global, keys: &str) -> Result<Vec<Worker>, AllocError> {
     Ok(workers)
 }
 
-/// The bytes of the reply to the command that bytes hold, and none if they hold none.
+/// The bytes of the reply to the command in these bytes; no bytes if they hold no command.
 fn answer_to(alloc: Global, peer: &mut Peer, question: &[u8]) -> Result<Vec<u8>, AllocError> {
     match decode(alloc, question, Limits::default()) {
         Ok(Decoded::Complete { reply, len: _ }) => match command_words(alloc, reply)? {
@@ -63,7 +63,7 @@ fn answer_to(alloc: Global, peer: &mut Peer, question: &[u8]) -> Result<Vec<u8>,
     }
 }
 
-/// A worker asks once, and takes the reply.
+/// A worker sends a command, and takes the reply.
 fn turn(
     alloc: Global,
     peer: &mut Peer,
@@ -84,7 +84,7 @@ fn turn(
     )
 }
 
-/// Plays workers of streams, and says what is pending then.
+/// Plays workers of streams, and prints the pending entries at the end.
 fn play_streams(
     alloc: Global,
     words: &str,
