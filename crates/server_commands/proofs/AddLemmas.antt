@@ -35,7 +35,7 @@ first_text [] word text others at is = absurd (omega (arith, ap length is))
 first_text (w ∷ words) word text others at is =
     ap (λ (v : Vec ℕ). v.items) at ∙ ap (λ (ts : List (List ℕ)). get_or ts 0 []) is
 
--- what a call of `retention_in` says of its words
+-- what a call of `retention_in` ensures of its words
 pub options_read : {E : Type 0} (words rest : List (Vec ℕ)) (r : Result Retention E) (options : Retention) → r ≡ Ok options
     → words ≡ rest
     → ((id : EntryId) (others : List (List ℕ)) → true ≡ true → Fits id → texts_of words ≡ id_text id ∷ others

@@ -1,4 +1,4 @@
--- What the answers to a claim are as they are sent.
+-- The bytes of the replies to a claim.
 use Rattle.std.proofs.Common.{◌≡◌, ◌<◌, ◌+◌, ◌++◌, ℕ, zero, suc, Bool, false, List, [], ◌∷◌, map, take, length, get_or, refl, sym, ap, ◌∙◌, append_assoc, append-nil, arith}
 use Rattle.std.proofs.Common.{◌≢◌, subst, inl, inr}
 use Rattle.std.proofs.lemmas.List.{map-append, take_more}

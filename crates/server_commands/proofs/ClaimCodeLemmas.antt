@@ -1,4 +1,4 @@
--- What is pending is given over, one after the other.
+-- Pending entries are given to another consumer, one after the other.
 use Rattle.std.specs.Global.{Vec}
 use Rattle.std.proofs.Common.{◌≡◌, ◌<◌, ◌+◌, ◌++◌, ℕ, zero, suc, Bool, true, false, List, [], ◌∷◌, map, take, length, get_or, set, subst, refl, sym, ap, ◌∙◌, inl, inr, arith}
 use Rattle.std.proofs.Common.{Result, Ok, Err, OnOk, OnErr}
@@ -52,7 +52,7 @@ pub names_stay : {E : Type 0} (r : Result Unit E) (q : Pending) (old new : Group
 names_stay (Ok u) q old new given same = given_names q old new given
 names_stay (Err e) q old new given same = ap (λ (cs : Vec Consumer). names_of cs.items) same
 
--- ---- one more is given over
+-- -- one more is given
 
 module _ (number now : ℕ) (only_ids : Bool) where
   abbrev After : List EntryId → Pending → Pending
@@ -97,7 +97,7 @@ module _ (number now : ℕ) (only_ids : Bool) where
       rw (after_other ids p.id x (apart_up x.id p.id less))
       (ap (λ (qs : List Pending). After ids x ∷ qs) (set_after ids p ps k d up.1 (omega (arith, lt)) at))
 
-  -- two that are pending with one id stand at one place
+  -- two pending entries with the same id are at one index
   pub one_index : (ps : List Pending) (i j : ℕ) (d : Pending) → IsAscending (λ p. p.id) ps → i < length ps → j < length ps
       → (get_or ps i d).id ≡ (get_or ps j d).id → i ≡ j
   one_index ps i j d up in_i in_j same = elim (cases_lt i j) [

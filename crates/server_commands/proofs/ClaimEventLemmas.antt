@@ -362,7 +362,7 @@ module _ (entries : List Entry) (last_id : EntryId) (old : Group) (w : World Fie
               all_joined (λ (r : group_model.Pending). P r.id) (claimed_one more pick who deleted q) (claimed more pick who deleted qs)
               (of_one P more pick who deleted q all.0) (all_claimed P more pick who deleted qs all.1)
 
-    -- ---- what is answered
+    -- -- the reply
 
     pick_is : (e : Entry) → IsUpTo last_id e.id → has_entry e.id entries ≡ true
         → (Pick (id_text e.id) && listed (pending_ids w.pending) (id_text e.id)) ≡ is_among taken e.id
@@ -413,7 +413,7 @@ pub sent_same : (only_ids : Bool) (e : Entry) → sent_delivered only_ids (whole
 sent_same true e = refl
 sent_same false e = ap (λ (xs : List Sent). array_of (item_list (plain (bulk (id_text e.id)) ∷ array_of (item_list xs) ∷ []))) (fields_same e.fields.items)
 
--- the group of a stream after a claim, and what is answered, are those of the world
+-- the group of a stream after a claim, and the reply, are those of the world
 pub record GroupClaims (consumer : Name) (only_ids : Bool) (taken gone : List EntryId) (next : EntryId) (answer : Answer) (s : Stream) (old new : Group) (w : World Fields) : Type 0 where
   pub name : new.name ≡ old.name
   pub model : IsModelOf s.entries.items s.last_id new (happens w (claiming only_ids consumer (is_picked taken gone) (id_text next)))

@@ -230,7 +230,7 @@ module _ (id : EntryId) (ids : List EntryId) where
   abbrev Among : Entry → Bool
   Among e = is_among ids e.id
 
-  -- behind the first one, the others are those that are asked for
+  -- after the first one, the others are those with one of the ids
   behind_first : (es : List Entry) → AllBelow id es → filter With es ≡ filter Among es
   behind_first es below = filter_same With Among es
       (all_so (λ e. id_order id e.id ≡ Less) (λ e. With e ≡ Among e) (λ e less. rw (apart_down id e.id less) refl) es below)

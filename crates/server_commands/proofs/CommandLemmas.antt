@@ -11,7 +11,7 @@ use Rattle.server_commands.specs.declared.quoted.Place.TheVariants.{Between}
 use Rattle.server_commands.specs.Incoming.{Read, ◌>>=◌, short, bad, Fails, word_at, words_at, balanced, FailsAt}
 use Rattle.server_commands.specs.Quoted.{Turn, goes, ends, fails, turn, behind_turn, at_end, words_from, prefixed, GoesOn}
 
--- words that were read, in front of those that are read
+-- words that were read, before those that are read
 abbrev pub in_front : List (List ℕ) → Read (List (List ℕ)) → Read (List (List ℕ))
 in_front ws read = read >>= λ y. Ok (ws ++ y.0, y.1)
 

@@ -1,4 +1,4 @@
--- What is behind an id, and that it is delivered.
+-- The entries after an id, and that they are delivered.
 use Rattle.std.proofs.Common.{◌≡◌, ℕ, zero, suc, ◌+◌, ◌-◌, ◌<◌, ◌≤◌, Bool, true, false, List, [], ◌∷◌, length, filter, get_or, drop, take, inl, inr, refl, sym, ap, ◌∙◌, arith}
 use Rattle.std.proofs.lemmas.Bool.{cases_lt}
 use Rattle.std.proofs.lemmas.Bool.Decides.{nat_tests}
@@ -13,7 +13,7 @@ use Rattle.server_store.specs.declared.group.Group.{Group}
 use Rattle.server_store.specs.declared.stream.Entry.{Entry}
 use Rattle.server_commands.specs.Delivering.{AreDelivered, HandsOut, IsDelivered, entries_behind}
 
--- ---- what is behind an id
+-- -- the entries after an id
 
 not_behind : (a b : EntryId) → id_order b a ≡ Less → is_lt (id_order a b) ≡ false
 not_behind a b less = grind (arith, nat_tests, less)
@@ -24,7 +24,7 @@ not_itself a b is = grind (arith, nat_tests, is)
 is_behind : (a b : EntryId) → id_order b a ≡ Greater → is_lt (id_order a b) ≡ true
 is_behind a b greater = grind (arith, nat_tests, greater)
 
--- those before the index are not behind it, and those from it on are
+-- those before the index are not after it, and those from it on are
 from : {X : Type 0} (id_of : X → EntryId) (id : EntryId) (xs : List X) (k : ℕ) → k ≤ length xs
     → ((j : ℕ) (d : X) → j < k → is_lt (id_order id (id_of (get_or xs j d))) ≡ false)
     → ((j : ℕ) (d : X) → k ≤ j → j < length xs → is_lt (id_order id (id_of (get_or xs j d))) ≡ true)
@@ -45,7 +45,7 @@ pub behind_gap : {X : Type 0} (id_of : X → EntryId) (id : EntryId) (xs : List 
 behind_gap id_of id xs k le gap =
     from id_of id xs k le (λ j d lt. not_behind id _ (gap.0 j d (omega arith) lt)) (λ j d at lt. is_behind id _ (gap.1 j d at lt))
 
--- behind the one with the id
+-- after the one with the id
 pub behind_it : {X : Type 0} (id_of : X → EntryId) (id : EntryId) (xs : List X) (i : ℕ) → i < length xs → HoldsAt (λ x. id_of x ≡ id) xs i
     → IsAscending id_of xs → drop (i + 1) xs ≡ filter (λ x. is_lt (id_order id (id_of x))) xs
 behind_it {X} id_of id xs i within named up =
@@ -99,7 +99,7 @@ module _ (number now : ℕ) (noack : Bool) where
       → AreDelivered number now noack (take most ys) old new
   of_same xs ys most old new same so = rw (sym same) so
 
-  -- where nothing is left, all is delivered
+  -- if nothing is left, all is delivered
   pub all_delivered : (name : List ℕ) (most left start : ℕ) (entries all rest : List Entry) (old between new : Group)
       → IsSeen name now number old between
       → between ≡ record old { consumers = between.consumers; next_number = between.next_number }

@@ -54,7 +54,7 @@ all_append : (P : ℕ → Type 0) (xs ys : List ℕ) → AllByRecursion P xs →
 all_append P [] ys a b = b
 all_append P (x ∷ xs) ys a b = (a.0, all_append P xs ys a.1 b)
 
--- one more from the front
+-- one more from the start
 front_step : (n x : ℕ) (xs : List ℕ) → (take (1 + n) (x ∷ xs) ≡ x ∷ take n xs) × (drop (1 + n) (x ∷ xs) ≡ drop n xs)
 front_step n x xs = let e : 1 + n ≡ suc n = omega arith in rw e (refl, refl)
 
@@ -144,7 +144,7 @@ read_more words i word ids id lt is so_far one =
     take_more words i word lt ∙ ap (λ (w : Vec ℕ). take i words ++ w ∷ []) (sym is) in
     rw grown (read_snoc (take i words) ids word id so_far one)
 
--- what a call of `id` says of its word
+-- what a call of `id` ensures of its word
 pub told_read : {E : Type 0} (text : List ℕ) (word : Vec ℕ) (r : Result EntryId E) (id : EntryId) → text ≡ word.items
     → r ≡ Ok id → ((i : EntryId) → Fits i → text ≡ id_text i → r ≡ Ok i) → IsRead word id
 told_read {E} text word r id same was told = λ i fit is.

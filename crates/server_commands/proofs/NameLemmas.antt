@@ -21,7 +21,7 @@ pub found_by_name : {X : Type 0} (name_of : X → List ℕ) (xs : List X) (name 
 found_by_name name_of xs name (Ok i) equal = λ d. exact_bytes _ _ (equal d)
 found_by_name name_of xs name (Err i) parted = tt
 
--- a name is not before or behind itself
+-- a name is not before or after itself
 pub not_before_itself : (a b : List ℕ) → a ≡ b → slice_cmp nat_cmp a b ≡ Less → ⊥
 not_before_itself a b is less =
     let equal : slice_cmp nat_cmp a b ≡ Equal = rw is (tied_itself nat_list_cmp_total b) in

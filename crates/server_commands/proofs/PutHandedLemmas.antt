@@ -1,4 +1,4 @@
--- What is handed out to the part of a group, and put into the group, is handed out to the group.
+-- Entries that are delivered to the part of a group, which is then put into the group, are delivered to the group.
 use Rattle.std.proofs.Common.{◌≡◌, ◌<◌, ℕ, true, false, arith, List, [], ◌∷◌, ◌++◌, map, take, subst, inl, inr, refl, sym, ap, ◌∙◌}
 use Rattle.std.specs.Prelude.{ℤ, Option}
 use Rattle.std.specs.List.{AllByRecursion}

@@ -47,7 +47,7 @@ put_more r number p first old between all es rest is ok err places others (free,
 nothing_given : (number : ℕ) (rest : List Pending) (g : Group) → length rest ≡ 0 → AreGiven (map (for_consumer number) rest) g g
 nothing_given number rest g none = rw (nil_from_length rest none) refl
 
--- where nothing is left, the part is put into the group
+-- if nothing is left, the part is put into the group
 pub put_all : (name : List ℕ) (now number : ℕ) (part old between new : Group) (all rest : List Pending)
     → IsSeen name now number (record old { last_id = part.last_id; entries_read = part.entries_read }) between
     → between.pending.items ≡ old.pending.items

@@ -1,4 +1,4 @@
--- What is answered of new entries is what the model of a group gives.
+-- The reply with new entries is what the model of a group gives.
 use Rattle.std.proofs.Common.{◌≡◌, ◌<◌, ℕ, zero, suc, List, [], ◌∷◌, ◌++◌, map, take, drop, subst, refl, sym, ap, ◌∙◌, append_assoc, append-nil}
 use Rattle.std.proofs.lemmas.List.Elements.{filter-append}
 use Rattle.std.specs.Global.{Vec}
@@ -78,7 +78,7 @@ module _ (consumer : Name) (most : ℕ) (entries : List Entry) (last_id : EntryI
     );
   }
 
--- ---- news are read
+-- -- new entries are read
 
 pub reading_news_is_the_event : ReadingNewsIsTheEvent
 reading_news_is_the_event consumer now most entries last_id old new w None (same, found) model numbers room = record {

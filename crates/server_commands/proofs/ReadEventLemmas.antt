@@ -40,7 +40,7 @@ record IsReadOf (key consumer : List ℕ) (most : ℕ) (answer : Answer) (entrie
 
 module _ (key consumer : List ℕ) (now : ℕ) (answer : Answer) (entries : List Entry) (last_id : EntryId) (old new : Group) (w : World Fields)
     (model : IsModelOf entries last_id old w) (numbers : AreNumbered old) (room : old.next_number < 18446744073709551615) where
-  -- those that are handed out
+  -- the entries that are delivered
   answer_with : (most : ℕ) (e : Entry) (es : List Entry) → 0 < most
       → sent answer ≡ rows_of (more_rows key (array_of (item_list (map sent_whole (map as_entry (take most (e ∷ es)))))) no_rows)
       → IsAnswerWith key (map as_entry (take most (e ∷ es))) answer

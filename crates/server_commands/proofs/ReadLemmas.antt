@@ -1,4 +1,4 @@
--- What is answered of entries.
+-- The reply with entries.
 use Rattle.std.proofs.Common.{◌≡◌, ◌+◌, ◌-◌, ◌<◌, ◌≤◌, ℕ, zero, suc, List, [], ◌∷◌, ◌++◌, map, length, get_or, take, drop, refl, sym, ap, ◌∙◌, append_assoc, append-nil, rules, arith}
 use Rattle.std.proofs.lemmas.List.{drop_all, take_all, length-drop, map-append, map_more}
 use Rattle.std.specs.Prelude.{Result, Ok, Err, IfOk, Some, None}
@@ -22,7 +22,7 @@ sent-Array v = search (rules, the_lemmas)
 pub sent-Id : (id : EntryId) → sent (a.Id id) ≡ plain (bulk (id_text id))
 sent-Id id = search (rules, the_lemmas)
 
--- the answers as one array
+-- the replies as one array
 pub array_sent : (v : Vec Answer) (xs : List Answer) → v.items ≡ xs → sent (a.Array v) ≡ array_of (item_list (map sent xs))
 array_sent v xs is = sent-Array v ∙ ap (λ (ys : List Answer). array_of (item_list (map sent ys))) is
 
@@ -76,7 +76,7 @@ found_more old new x e left es rest total some stands grown is so =
 pub nothing_found : (answers : List Answer) (total : List Sent) → answers ≡ [] → map sent answers ++ total ≡ total
 nothing_found answers total none = rw none refl
 
--- where nothing is left, all is found
+-- if nothing is left, all is found
 pub found_all : (id : EntryId) (most left start : ℕ) (entries all rest : List Entry) (answers : Vec Answer)
     → start ≤ length entries → (start ≡ length entries → ⊥) → all ≡ drop start entries
     → (AreInOrder entries → drop start entries ≡ entries_behind id entries)
@@ -89,7 +89,7 @@ found_all id most left start entries all rest answers within some are behind so 
       ∙ so ∙ ap (λ (es : List Entry). map sent_entry (take most es)) (are ∙ behind up),
 )
 
--- and where none is there, none is found
+-- and if none is there, none is found
 pub none_found : (id : EntryId) (most start : ℕ) (entries : List Entry) → start ≡ length entries
     → (AreInOrder entries → drop start entries ≡ entries_behind id entries)
     → AreInOrder entries → AreFound most (entries_behind id entries) None

@@ -1,4 +1,4 @@
--- What is handed out is what the model of a group hands out.
+-- The entries that are delivered are those that the model of a group delivers.
 use Rattle.std.proofs.Math.Seq.{map-set_same}
 use Rattle.std.proofs.Common.{◌≡◌, ◌+◌, ◌<◌, ◌≤◌, ℕ, zero, suc, Bool, true, false, List, [], ◌∷◌, ◌++◌, map, filter, length, get_or, set, take, drop, subst, inl, inr, refl, sym, ap, ◌∙◌, append_assoc, append-nil, arith}
 use Rattle.std.proofs.lemmas.Bool.{cases_Bool, cases_lt}
@@ -192,7 +192,7 @@ holds_of_last : (P : EntryId → Type 0) (last : EntryId) (es : List Entry) → 
 holds_of_last P last [] is all = is
 holds_of_last P last (e ∷ es) is all = holds_of_last P e.id es all.0 all.1
 
--- the same of what is behind the last one
+-- the same for the entries after the last one
 kept : (last : EntryId) (n : ℕ) (es : List Entry) → AreInOrder es → (id : EntryId) → NotAbove last id
     → NotAbove (last_of last (take n (entries_behind last es))) id
 kept last zero [] up id none = none
@@ -204,7 +204,7 @@ kept last n (e ∷ es) up id none = elim (cases_Bool (is_lt (id_order last e.id)
   | inr f ↦ rw f (kept last n es (rest_ascends e es up) id none)
 ]
 
--- what is taken from the front of what is behind the last id is up to the id of the last one that is taken
+-- the first entries after the last id are those up to the id of the last one that is taken
 split : (last : EntryId) (n : ℕ) (es : List Entry) → AreInOrder es → IsSplit last n es (entries_behind last es)
 split last zero [] up = (refl, refl)
 split last (suc n) [] up = (refl, refl)

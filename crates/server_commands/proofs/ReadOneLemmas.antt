@@ -180,7 +180,7 @@ module _ (key name group_name : List ℕ) (now most : ℕ) (streams : List Strea
       changed_in key group_name (ReadsNews key name now most read.answer) streams index d e place was within at inside at_place was_is is
       (read_ready key name now most (get_or streams index d) was is read so put)
 
-  -- and where nothing is found, nothing is read
+  -- and if nothing is found, nothing is read
   pub read_none : (answer : Answer) (r : Option Outcome) → r ≡ None
       → (AreInOrder (get_or streams index x).entries.items → IsFound key name now most (get_or streams index x).entries.items y
       (entries_behind y.last_id (get_or streams index x).entries.items) r)

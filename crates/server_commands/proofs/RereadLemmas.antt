@@ -40,7 +40,7 @@ use Rattle.server_commands.proofs.NameLemmas.{one_place}
 use Rattle.server_commands.proofs.ReadLemmas.{sent-Id}
 use Rattle.server_commands.proofs.StalledLemmas.{has_at, has_none}
 
--- ---- what is answered
+-- -- the reply
 
 nil_sent : sent a.NilArray ≡ no_array
 nil_sent = search (rules, the_lemmas)
@@ -59,7 +59,7 @@ answered_none (Ok x) id es none is = λ up.
     is ∙ step ∙ ap (λ (xs : List Entry). sent_first id xs) (sym (none_with id es (none up)))
 answered_none (Err f) id es none is = tt
 
--- one more is answered
+-- one more reply
 pub own_more : (es : List Entry) (ps : List Pending) (i : ℕ) (p : Pending) (old new : List Answer) (x : Answer) → i < length ps
     → new ≡ old ++ x ∷ [] → sent x ≡ sent_first (get_or ps i p).id (entry_with (get_or ps i p).id es)
     → map sent old ≡ map (sent_own es) (take i ps) → map sent new ≡ map (sent_own es) (take (i + 1) ps)

@@ -1,4 +1,4 @@
--- What is read again is what the model of a group hands out again.
+-- The entries that are read again are those that the model of a group delivers again.
 use Rattle.std.proofs.Common.{◌≡◌, ◌<◌, ◌+◌, ℕ, zero, suc, Bool, true, false, List, [], ◌∷◌, map, filter, take, drop, length, get_or, subst, refl, sym, ap, ◌∙◌, inl, inr, arith}
 use mathlib.Core.Bool.{true≢false}
 use Rattle.std.proofs.lemmas.Bool.{cases_Bool}
@@ -108,7 +108,7 @@ module _ (entries : List Entry) (deleted : List worker_model.Id) (names after : 
       ap (λ (r : group_model.Pending). r ∷ map (as_pending after) (map After ps)) first
       ∙ ap (λ (rs : List group_model.Pending). capped (raised_one Picks consumer deleted q) ∷ rs) rest
 
--- ---- what is answered
+-- -- the reply
 
 none_entry : (id : EntryId) (es : List Entry) → has_entry id es ≡ false → entry_with id es ≡ []
 none_entry id [] none = refl
@@ -122,7 +122,7 @@ same_as_id a b a_fits b_fits is =
     sym (is_same b a (sym (apart a b a_fits b_fits) ∙ (bytes_eq-Decides (id_text a) (id_text b)).1 is))
 
 module _ (entries : List Entry) (last_id : EntryId) (group : Group) (w : World Fields) (model : IsModelOf entries last_id group w) where
-  -- an entry of the world is answered as the one of the stream with its id is, if there is one
+  -- the reply for an entry of the world is that for the entry of the stream with its id, if there is one
   abbrev pub Shows : worker_model.Entry Fields → Type 0
   Shows e = (id : EntryId) → Fits id → e.0 ≡ id_text id → sent_again (as_it_is w.deleted e) ≡ sent_first id (entry_with id entries)
 
@@ -249,7 +249,7 @@ module _ (deleted : List worker_model.Id) (entries : List Entry) where
 
 -- ---- one group
 
--- of what is its own, that it stands in the list and whose it is
+-- one of a consumer's own: it is in the list, and has this consumer's number
 pub record IsOf (ps : List Pending) (number : ℕ) (q : Pending) : Type 0 where
   pub there : Contains ps q
   pub his : (q.consumer == number) ≡ true
@@ -337,7 +337,7 @@ first_alone {A} a b also (x ∷ xs) = elim (cases_Bool (a x)) [
   | inr f ↦ rw f (first_alone a b also xs)
 ]
 
--- the group of a stream after its consumer read its own again, and what is answered, are those of the world
+-- the group of a stream after its consumer read its own again, and the reply, are those of the world
 pub record GroupRereads (key consumer : List ℕ) (own_ids : List EntryId) (answer : Answer) (entries : List Entry) (last_id : EntryId) (old new : Group) (w : World Fields) : Type 0 where
   pub named : new.name.items ≡ old.name.items
   pub model : IsModelOf entries last_id new (happens w (Reread consumer (listed (words_of_ids own_ids))))

@@ -1,4 +1,4 @@
--- What was looked through of a command says where it goes on.
+-- The scanned part of a command determines where the command goes on.
 use Rattle.std.proofs.Common.{◌≡◌, ◌≤◌, ◌<◌, ◌+◌, ◌-◌, ◌==◌, ◌&&◌, ℕ, zero, suc, List, [], ◌∷◌, ◌++◌, length, take, drop, Bool, true, false, cond, not}
 use Rattle.std.proofs.Common.{Result, Ok, Err, refl, sym, ap, subst, ◌∙◌, append_assoc, append-nil, arith, length-append}
 use Rattle.std.proofs.lemmas.Bool.Decides.{nat_tests}
@@ -14,13 +14,13 @@ use Rattle.server_commands.specs.declared.incoming.ProtocolError.TheVariants as 
 use Rattle.server_commands.specs.Incoming.{Read, Halt, ◌>>=◌, short, bad, no_end, is_before, ended, before, behind_one, head_at, word_count, word_len}
 use Rattle.server_commands.specs.Incoming.{behind_two, body_at, word_at, words_at, count_at, array_at, command_at, IsScan}
 
--- This is read of a front of the bytes: so it is read of it whatever comes behind it.
+-- This is read of a prefix of the bytes, and it is read of that prefix whatever bytes follow.
 pub record Fronts {A : Type 0} (read : List ℕ → Read A) (bytes : List ℕ) (x : A) (rest : List ℕ) : Type 0 where
   pub front : List ℕ
   pub is : bytes ≡ front ++ rest
   pub so : (more : List ℕ) → read (front ++ more) ≡ Ok (x, more)
 
--- one step, and behind it the next one
+-- one step, and after it the next one
 module _ {A B : Type 0} (first : List ℕ → Read A) (next : A → List ℕ → Read B) (bytes : List ℕ)
     (ahead : (x : A) (rest : List ℕ) → first bytes ≡ Ok (x, rest) → Fronts first bytes x rest)
     (later : (x : A) (rest : List ℕ) (y : B) (left : List ℕ) → next x rest ≡ Ok (y, left) → Fronts (next x) rest y left)
@@ -181,7 +181,7 @@ body_fronts n bytes w r h =
           (body_seam (take n bytes) so.0 so.1 more)));
     }
 
--- a number that a line has, and so many bytes
+-- a number in a line, and this number of bytes
 sized_by : (line rest w r : List ℕ) (len : Result ℕ Halt) → word_len line ≡ len → (len >>= body_at rest) ≡ Ok (w, r)
     → Fronts (λ bs. word_len line >>= body_at bs) rest w r
 sized_by line rest w r (Ok n) is h =
@@ -213,7 +213,7 @@ count_fronts bytes n r h = then_on (head_at errors.LongCount) (λ line rest. wor
 
 -- ---- how far a command was looked through
 
--- the bytes behind a front are those behind its length
+-- the bytes after a prefix are those after its length
 behind_front : (bytes front rest : List ℕ) → bytes ≡ front ++ rest → drop (length bytes - length rest) bytes ≡ rest
 behind_front bytes front rest is =
     let len : length bytes - length rest ≡ length front = omega (arith, ap length is, length-append {A = ℕ}) in
@@ -287,7 +287,7 @@ on_so scan new bytes w behind some h at left is =
           is.goes_on more (subst (λ (k : ℕ). words_at k (drop scan.at bytes ++ more) ≡ Err short) one all);
     }
 
--- a word is not whole
+-- a word is not complete
 pub short_so : (scan : Scan) (bytes : List ℕ) → IsScan scan bytes → 0 < scan.left → word_at (drop scan.at bytes) ≡ Err short
     → command_at bytes ≡ Err short
 unfolding words_at

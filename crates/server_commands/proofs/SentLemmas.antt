@@ -53,7 +53,7 @@ count_items xs n len = len ∙ sym (length-map xs sent) ∙ sym (item_count_is (
 count_rows : (rs : List (Vec ℕ Global × Answer)) (n : ℕ) → n ≡ length rs → n ≡ row_count (row_list (map sent_row rs))
 count_rows rs n len = len ∙ sym (length-map rs sent_row) ∙ sym (row_count_is (map sent_row rs))
 
--- ---- one more behind others
+-- -- one more after others
 
 pub items_push : (p : Protocol) (xs : List Sent) (x : Sent)
     → items_bytes p (item_list (xs ++ x ∷ [])) ≡ items_bytes p (item_list xs) ++ sent_bytes p x
@@ -79,7 +79,7 @@ turns_push p (s ∷ rs) r =
     ap (λ (z : List ℕ). first ++ z) (turns_push p rs r)
     ∙ sym (append_assoc first (turns_bytes p (row_list rs)) (bulk_bytes r.0.items ++ sent_bytes p r.1))
 
--- ---- a count, and what stands behind it
+-- -- a count, and the bytes after it
 
 sent-Array : (v : Vec Answer Global) → sent (a.Array v) ≡ array_of (item_list (map sent v.items))
 sent-Array v = search (rules, the_lemmas)

@@ -96,7 +96,7 @@ rows_are_turns no_rows = refl
 rows_are_turns (more_rows name x rs) =
     ap (λ (z : List ℕ). (bulk_bytes name ++ sent_bytes Resp3 x) ++ z) (rows_are_turns rs)
 
--- a name, and what belongs to it, in front of others
+-- a name with its value, before others
 two_more_members : (R : List ℕ → Rattle.redis_wire.specs.Reply.Answer → Type 0) (n : ℕ) (a b rest : List ℕ) (t u : Tree)
     (ts : List Tree) → R a (value t) → R b (value u) → AreMembers R (2 * n) rest (values ts)
     → AreMembers R (2 * suc n) ((a ++ b) ++ rest) (values (t ∷ u ∷ ts))
@@ -107,7 +107,7 @@ two_more_members R n a b rest t u ts at_a at_b members =
     (one_more_member R (suc (2 * n)) a (b ++ rest) t (u ∷ ts) at_a
     (one_more_member R (2 * n) b rest u ts at_b members)))
 
--- ---- answers
+-- -- replies
 
 module _ (limits : Limits) (small : limits.length < 2 ^ 32) (line : 20 ≤ limits.line) where
   row_is : (name : List ℕ) (x : Sent)
@@ -190,7 +190,7 @@ module _ (limits : Limits) (small : limits.length < 2 ^ 32) (line : 20 ≤ limit
         (bulk name) (tree_of Resp3 x) (in_turn (pairs_of rs))
         (tree_is limits small line Resp3 (bulk name) d w.0) (sent_is Resp3 x d w.1) (pairs_are rs d w.2)
 
-  -- ---- what commands came to
+  -- -- the outcomes of commands
 
   outcome_is : (p : Protocol) (d : ℕ) (o : Result Answer (Vec ℕ Global)) → OutcomeFits p limits d o
       → IsValue limits d (outcome_bytes p o) (outcome_said p o)

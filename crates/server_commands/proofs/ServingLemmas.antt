@@ -1,4 +1,4 @@
--- Commands that are answered one after the other.
+-- Commands that get replies one after the other.
 use Rattle.std.proofs.Common.{◌≡◌, ℕ, List, [], ◌∷◌, ◌++◌, Result, Ok, Err, Option, Some, None, length, map, refl, sym, ap, subst, append_assoc, append-nil, ◌∙◌}
 use Rattle.redis_wire.specs.declared.written.Protocol.{Protocol}
 use Rattle.std.specs.List.{flat_map}
@@ -47,7 +47,7 @@ pub on_err_so : {A E P Q : Type 0} (r : Result A E) → (P → Q) → OnErr r P 
 on_err_so (Ok x) so p = tt
 on_err_so (Err e) so p = so p
 
--- one command, and those behind it
+-- one command, and those after it
 module _ (bytes behind : List ℕ) (words : List (List ℕ)) (before between : List ℕ) (read : command_at bytes ≡ Ok (words, behind))
     (first : (turn : Turn) × IsAnswered words turn × (between ≡ before ++ turn_bytes turn)) where
   does_first : (rest after : List ℕ) → Does behind rest between after → Does bytes rest before after

@@ -24,7 +24,7 @@ pending_without_all (id ∷ ids) pending = pending_without_all ids (pending_with
 abbrev pub names_of : List Consumer → List (ℕ × List ℕ)
 names_of consumers = map (λ c. (c.number, c.name.items)) consumers
 
--- what was pending with these ids is not, and `count` were; the others stay, in order
+-- the pending entries with these ids are removed, and `count` were pending; the others stay, in order
 pub record AreAcknowledged (ids : List EntryId) (count : ℕ) (old new : Group) : Type 0 where
   pub pending : IsInOrder old → new.pending.items ≡ pending_without_all ids old.pending.items
   pub order : IsInOrder old → IsInOrder new
@@ -36,7 +36,7 @@ pub record AreAcknowledged (ids : List EntryId) (count : ℕ) (old new : Group) 
 abbrev pub count_answer : ℕ → Answer
 count_answer n = Int (pos (min n 9223372036854775807))
 
--- what is pending with the ids that the other arguments are is acknowledged in the group, and counted
+-- the pending entries with the ids in the other arguments are acknowledged in the group, and counted
 pub record IsXack (arguments : List (Vec ℕ)) (answer : Answer) (old new : List Stream) : Type 0 where
   pub key : List ℕ
   pub name : List ℕ
@@ -58,6 +58,6 @@ pub record IsXackOfNone (arguments : List (Vec ℕ)) (answer : Answer) (old new 
   pub same : new ≡ old
   pub answered : answer ≡ count_answer 0
 
--- so it is done, or there is no such group
+-- entries are acknowledged in the group, or there is no such group
 abbrev pub AcknowledgesIn : List (Vec ℕ) → Answer → List Stream → List Stream → Type 0
 AcknowledgesIn arguments answer old new = IsXack arguments answer old new ⊎ IsXackOfNone arguments answer old new

@@ -39,7 +39,7 @@ IsIdFor last (Within ms) now id =
 IsIdFor last Automatic now id = MatchBool (nat_lt last.milliseconds now)
     (id ≡ record { milliseconds = now; sequence = 0 }) (id_number id ≡ id_number last + 1)
 
--- a trim that is asked for is made
+-- if a trim is given, the stream is trimmed by it
 abbrev pub IsTrimmedBy : Option Trim → Stream → Stream → Type 0
 IsTrimmedBy None old new = new ≡ old
 IsTrimmedBy (Some trim) old new = (count : ℕ) × IsTrimmed trim count old new
@@ -56,13 +56,13 @@ pub record IsAdded (fields : Vec (Vec ℕ)) (options : Retention) (now : ℕ) (a
   pub trimmed : IsTrimmedBy options.trim longer new
   pub answered : answer ≡ Id entry.id
 
--- no stream is made, as is asked
+-- no stream is made, by the option NOMKSTREAM
 pub record IsNotMade (options : Retention) (answer : Answer) (old new : List Stream) : Type 0 where
   pub asked : options.makes_stream ≡ false
   pub same : new ≡ old
   pub answered : answer ≡ Nil
 
--- there is no stream of this key: one is made, to which the entry is added, or none is
+-- there is no stream of this key: one is made, to which the entry is added, or by the option none is made
 pub record IsXaddOfNone (key : List ℕ) (fields : Vec (Vec ℕ)) (options : Retention) (now : ℕ) (answer : Answer) (old new : List Stream) : Type 0 where
   pub none : AreInOrder (keys_of old) → IsMissing key (keys_of old)
   pub how : IsMade key (IsAdded fields options now answer) old new ⊎ IsNotMade options answer old new

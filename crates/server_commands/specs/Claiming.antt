@@ -54,7 +54,7 @@ module _ (number now : ℕ) (only_ids : Bool) where
     deliveries = min (p.deliveries + times_more only_ids) 18446744073709551615;
   }
 
-  -- so it is if its id is one of these, and else it stays as it is
+  -- a pending entry is taken over if its id is one of these, and otherwise stays as it is
   abbrev pub after_claim : List EntryId → Pending → Pending
   after_claim ids p = if is_among ids p.id then taken_over p else p
 
@@ -68,7 +68,7 @@ pub record TakesOver (name : List ℕ) (now : ℕ) (only_ids : Bool) (ids : List
   pub next : new.next_number ≡ seen.next_number
   pub others : new ≡ record old { pending = new.pending; consumers = new.consumers; next_number = new.next_number }
 
--- so it is if there is such an id
+-- the same if there is at least one such id
 abbrev pub IsTakenOver : List ℕ → ℕ → Bool → List EntryId → Group → Group → Type 0
 IsTakenOver name now only_ids [] old new = new ≡ old
 IsTakenOver name now only_ids (id ∷ ids) old new = TakesOver name now only_ids (id ∷ ids) old new
@@ -101,8 +101,8 @@ sent_claim next claimed gone =
 abbrev pub sent_claimed : Bool → Entry → Sent
 sent_claimed only_id entry = if only_id then sent_id entry.id else sent_entry entry
 
--- A claim in a stream finds what was idle long enough and what is gone. The group is changed so, if the ids ascend,
--- and the reply is where the next claim goes on, the entries that are taken over, and the ids that are gone.
+-- A claim in a stream finds the entries that were idle long enough and those that were deleted. If the ids ascend, the
+-- group is changed by these, and the reply is the next start, the entries that are taken over, and the deleted ids.
 pub record Claims (name : List ℕ) (claim : Claim) (answer : Answer) (stream : Stream) (old new : Group) : Type 0 where
   pub stalled : Stalled
   pub found : IsFound stream old claim (min (claim.most * 10) (2 ^ 64 - 1)) stalled

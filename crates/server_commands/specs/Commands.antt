@@ -78,17 +78,17 @@ Replies change words now old new (Done answer) = IsDone change words now answer 
 Replies change words now old new (Refused text) = (e : Refusal) × (e ≢ Memory) × MayRefuse change words e
 Replies change words now old new (Executed outcomes) = ⊥
 
--- so it is of a command that may be queued, if it changes streams
+-- what a command that may be queued does, if it changes streams
 abbrev pub PlainIsDone : Plain → List (Vec ℕ) → ℕ → Answer → List Stream → List Stream → Type 0
 PlainIsDone (plain.Change change) words now answer old new = IsDone change words now answer old new
 PlainIsDone command words now answer old new = Unit {0}
 
--- so it is of what such a command may be refused with
+-- why such a command may be refused
 abbrev pub PlainMayRefuse : Plain → List (Vec ℕ) → Refusal → Type 0
 PlainMayRefuse (plain.Change change) words e = MayRefuse change words e
 PlainMayRefuse command words e = Unit {0}
 
--- so it is of the reply to such a command
+-- the reply to such a command
 abbrev pub PlainReplies : Plain → List (Vec ℕ) → ℕ → List Stream → List Stream → Reply → Type 0
 PlainReplies (plain.Change change) words now old new reply = Replies change words now old new reply
 PlainReplies command words now old new reply = Unit {0}

@@ -8,7 +8,7 @@ use Rattle.server_store.specs.declared.stream.Stream.{Stream}
 use Rattle.server_commands.specs.declared.commands.group.Start.{Start}
 use Rattle.server_commands.specs.declared.commands.group.Start.TheVariants.{Last, At}
 
--- the group begins where this word says: `$` at the last id of the stream, and any other one at an id
+-- the group begins at the id in this word: `$` is the last id of the stream, and any other word is an id
 abbrev pub IsStartIn : Start → Vec ℕ → Type 0
 IsStartIn Last word = word.items ≡ codes "$"
 IsStartIn (At id) word = word.items ≢ codes "$"
@@ -18,7 +18,7 @@ abbrev pub start_id : Start → EntryId → EntryId
 start_id Last last_id = last_id
 start_id (At id) last_id = id
 
--- a group of this name comes in among the others, which stay: it begins so, and nothing is pending for anybody
+-- a group of this name is inserted among the others, which stay: it begins at this id, and has no pending entries
 pub record IsGroupMade (start : Start) (name : List ℕ) (entries_read : Option ℤ) (old new : Stream) : Type 0 where
   pub index : ℕ
   pub is : Group
@@ -31,7 +31,7 @@ pub record IsGroupMade (start : Start) (name : List ℕ) (entries_read : Option 
   pub groups : new.groups.items ≡ insert old.groups.items index is
   pub others : new ≡ record old { groups = new.groups }
 
--- it begins as the first of the words says
+-- the group begins at the id in the first of the words
 pub record IsXgroupCreate (words : List (Vec ℕ)) (name : List ℕ) (entries_read : Option ℤ) (old new : Stream) : Type 0 where
   pub start : Start
   pub worded : HoldsAt (IsStartIn start) words 0

@@ -23,14 +23,14 @@ abbrev pub entries_without_all : List EntryId → List Entry → List Entry
 entries_without_all [] entries = entries
 entries_without_all (id ∷ ids) entries = entries_without_all ids (entries_without id entries)
 
--- the entries with these ids are gone, and `count` were there; the others stay, in order
+-- the entries with these ids are removed, and `count` were there; the others stay, in order
 pub record AreDeleted (ids : List EntryId) (count : ℕ) (old new : Stream) : Type 0 where
   pub entries : EntriesAscend old.entries.items → new.entries.items ≡ entries_without_all ids old.entries.items
   pub order : EntriesAscend old.entries.items → EntriesAscend new.entries.items
   pub counted : length new.entries.items + count ≡ length old.entries.items
   pub others : new ≡ record old { entries = new.entries; nodes = new.nodes; gone = new.gone; max_deleted_id = new.max_deleted_id }
 
--- the entries with the ids that the other arguments are are deleted from the stream, and counted
+-- the entries with the ids in the other arguments are deleted from the stream, and counted
 pub record IsXdel (arguments : List (Vec ℕ)) (answer : Answer) (old new : List Stream) : Type 0 where
   pub key : List ℕ
   pub ids : List EntryId
@@ -48,6 +48,6 @@ pub record IsXdelOfNone (arguments : List (Vec ℕ)) (answer : Answer) (old new 
   pub same : new ≡ old
   pub answered : answer ≡ count_answer 0
 
--- so it is done, or there is no such stream
+-- entries are deleted from the stream, or there is no such stream
 abbrev pub DeletesIn : List (Vec ℕ) → Answer → List Stream → List Stream → Type 0
 DeletesIn arguments answer old new = IsXdel arguments answer old new ⊎ IsXdelOfNone arguments answer old new

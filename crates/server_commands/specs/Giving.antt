@@ -1,11 +1,11 @@
--- What was read for a consumer is put into the group.
+-- The entries that were read for a consumer are put into the group.
 use Rattle.std.specs.Prelude.{◌≡◌, ℕ, List, [], ◌∷◌, map}
 use Rattle.server_store.specs.Consumers.{IsSeen}
 use Rattle.server_store.specs.Pending.{IsGiven}
 use Rattle.server_store.specs.declared.group.Group.{Group}
 use Rattle.server_store.specs.declared.group.Pending.{Pending}
 
--- it is pending so for the consumer of this number
+-- the pending entry with the consumer of this number
 abbrev pub for_consumer : ℕ → Pending → Pending
 for_consumer number p = record p { consumer = number }
 

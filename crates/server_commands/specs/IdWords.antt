@@ -1,4 +1,4 @@
--- Which ids words are.
+-- The ids that words mean.
 use Rattle.std.specs.Prelude.{◌≡◌, ◌<◌, ◌^◌, ◌==◌, ℕ, Bool, not, List, [], ◌∷◌, map}
 use Rattle.std.specs.Global.{Vec}
 use Rattle.std.specs.List.{AllByRecursion}
@@ -15,7 +15,7 @@ is_of_part b = not (b == 45)
 abbrev pub Fits : EntryId → Type 0
 Fits id = (id.milliseconds < 2 ^ 64) × (id.sequence < 2 ^ 64)
 
--- so it is of each of these
+-- both numbers of each of these ids have 64 bits
 abbrev pub AreFit : List EntryId → Type 0
 AreFit = AllByRecursion Fits
 
@@ -31,13 +31,13 @@ words_of_ids ids = map id_text ids
 abbrev pub IsRead : Vec ℕ → EntryId → Type 0
 IsRead word id = (i : EntryId) → Fits i → word.items ≡ id_text i → id ≡ i
 
--- so it is of each word
+-- each word is the id at its index, if it is the text of one
 abbrev pub AreRead : List (Vec ℕ) → List EntryId → Type 0
 AreRead [] [] = Unit {0}
 AreRead [] (id ∷ ids) = ⊥
 AreRead (word ∷ words) [] = ⊥
 AreRead (word ∷ words) (id ∷ ids) = IsRead word id × AreRead words ids
 
--- memory is refused, or one of the words is the text of no id
+-- memory is refused, or one of the words is not the text of an id
 abbrev pub IsRefusedFor : List (Vec ℕ) → Refusal → Type 0
 IsRefusedFor words e = (ids : List EntryId) → AreFit ids → texts_of words ≡ words_of_ids ids → e ≡ Memory

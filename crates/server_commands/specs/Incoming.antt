@@ -1,4 +1,4 @@
--- Commands as redis-server reads them: the command at the front of bytes and the bytes after it, or why there is
+-- Commands as redis-server reads them: the command at the start of bytes and the bytes after it, or why there is
 -- none.
 use Rattle.std.specs.Prelude.{◌≡◌, ◌≤◌, ℕ, zero, suc, ◌+◌, ◌==◌, ◌&&◌, Bool, not, ℤ, pos, negsuc, List, [], ◌∷◌, ◌++◌, codes, length}
 use Rattle.std.specs.Prelude.{take, drop, Option, Some, None, Result, Ok, Err, nat_lt, if◌then◌else◌}
@@ -15,14 +15,14 @@ use Rattle.server_commands.specs.declared.incoming.Scan.{Scan}
 use Rattle.server_commands.specs.declared.incoming.Stop.{Stop}
 use Rattle.server_commands.specs.declared.incoming.Stop.TheVariants as stops
 
--- why no command is at the front of bytes
+-- why no command is at the start of bytes
 pub data Halt : Type 0 where
-  -- the bytes end before a command does, and may go on to be one
+  -- the bytes end before a command does, and may become one with more bytes
   short : Halt
-  -- they are none, however they go on
+  -- they are no command, whatever bytes follow
   bad : ProtocolError → Halt
 
--- what is at the front, and the bytes after it
+-- the value at the start, and the bytes after it
 abbrev pub Read : Type 0 → Type 0
 Read A = Result (A × List ℕ) Halt
 
@@ -49,11 +49,11 @@ Gives view (Err e) read = Fails e read
 abbrev pub no_end : ProtocolError → ℕ → Halt
 no_end e n = if nat_lt 65536 n then bad e else short
 
--- a byte before the end of a line; a NUL is none, and ends nothing
+-- a byte before the end of a line; a NUL is not one, and ends no line
 abbrev pub is_before : ℕ → ℕ → Bool
 is_before end b = not (b == end) && not (b == 0)
 
--- a front, and what is after the byte that has to end it
+-- a prefix, and the bytes after the byte that has to end it
 unfoldable pub ended : ℕ → ProtocolError → ℕ → List ℕ → List ℕ → Read (List ℕ)
 ended end e n front [] = Err (no_end e n)
 ended end e n front (b ∷ rest) = if b == end then Ok (front, rest) else Err (no_end e n)
@@ -64,7 +64,7 @@ before end e bytes = if nat_lt 65536 (prefix_len (is_before end) bytes) then Err
     else ended end e (length bytes) (take (prefix_len (is_before end) bytes) bytes)
     (drop (prefix_len (is_before end) bytes) bytes)
 
--- a line, and what is after the byte that follows its CR, whatever that is
+-- a line, and the bytes after the byte that follows its CR, whatever that byte is
 unfoldable pub behind_one : List ℕ → List ℕ → Read (List ℕ)
 behind_one line [] = Err short
 behind_one line (b ∷ rest) = Ok (line, rest)
@@ -140,7 +140,7 @@ abbrev pub balanced : Option (List (List ℕ)) → Result (List (List ℕ)) Halt
 balanced None = Err (bad errors.UnbalancedQuotes)
 balanced (Some words) = Ok words
 
--- why a byte of a line leads nowhere: memory ran out, or quotes are unbalanced
+-- why a byte of a line is refused: memory ran out, or quotes are unbalanced
 abbrev pub FailsAt : Turn → Stop → Type 0
 FailsAt turn stops.Memory = Unit {0}
 FailsAt turn stops.Short = ⊥
@@ -155,14 +155,14 @@ unfoldable pub command_at : List ℕ → Read (List (List ℕ))
 command_at [] = Err short
 command_at (b ∷ bytes) = if b == 42 then array_at (b ∷ bytes) else line_at (b ∷ bytes)
 
--- After the first `at` bytes `left` words are to come. While these are not whole, the command is not either, however
--- the bytes go on.
+-- After the first `at` bytes `left` words are to come. While these are incomplete, the command is too, whatever bytes
+-- follow.
 pub record IsScan (scan : Scan) (bytes : List ℕ) : Type 0 where
   pub within : scan.at ≤ length bytes
   pub goes_on : (more : List ℕ) → words_at scan.left (drop scan.at bytes ++ more) ≡ Err short
       → command_at (bytes ++ more) ≡ Err short
 
--- ---- what is said of an error
+-- -- the texts of errors
 
 -- the text of redis-server; for `NoLength` the byte and a quote follow
 abbrev pub fault_text : ProtocolError → List ℕ

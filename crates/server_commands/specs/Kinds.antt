@@ -3,13 +3,13 @@ use Rattle.std.specs.Prelude.{◌≡◌, Bool, true, false}
 use Rattle.server_commands.specs.declared.answer.Answer.{Answer, fold-Answer}
 use Rattle.server_commands.specs.declared.answer.Answer.TheOpen.{Answer-F}
 
--- one level of a reply: whether it is an array, or that there is none
+-- one level of a reply: whether it is an array, or a null array
 abbrev pub array_step : Answer-F Bool → Bool
 array_step (Answer-F.Array items) = true
 array_step Answer-F.NilArray = true
 array_step answer = false
 
--- one level of a reply: whether it is names with their replies, or that there are none
+-- one level of a reply: whether it is names with their replies, or a null array
 abbrev pub rows_step : Answer-F Bool → Bool
 rows_step (Answer-F.Rows rows) = true
 rows_step Answer-F.NilArray = true
@@ -26,11 +26,11 @@ abbrev pub bytes_step : Answer-F Bool → Bool
 bytes_step (Answer-F.Bytes bytes) = true
 bytes_step answer = false
 
--- an array, or that there is none
+-- an array, or a null array
 abbrev pub IsArray : Answer → Type 0
 IsArray answer = fold-Answer Bool array_step answer ≡ true
 
--- names with their replies, or that there are none
+-- names with their replies, or a null array
 abbrev pub IsRows : Answer → Type 0
 IsRows answer = fold-Answer Bool rows_step answer ≡ true
 

@@ -110,7 +110,7 @@ pub record XackComes (key name : List ℕ) (ids : List EntryId) (consumer : Name
   pub model : IsModelIn key name new (ack_comes w (Some (consumer, words_of_ids ids)))
   pub counted : length (pending_after (words_of_ids ids) w.pending) + count ≡ length w.pending
 
--- so it is, whatever the group's world was
+-- the law of this, whatever the group's world was
 abbrev pub XackIsTheEvent : Type 0
 XackIsTheEvent = (key name : List ℕ) (ids : List EntryId) (consumer : Name) (arguments : List (Vec ℕ)) (answer : Answer)
     (old new : List Stream) (w : World Fields) → AreFit ids → texts_of arguments ≡ key ∷ name ∷ words_of_ids ids

@@ -47,7 +47,7 @@ pub record XautoclaimClaims (key name consumer : List ℕ) (only_ids : Bool) (cl
   pub answered : sent answer ≡ sent_claim next
       (map (sent_delivered only_ids) (claim_answer (is_picked claimed gone) w.pending w.deleted w.seen)) gone
 
--- So it is of XAUTOCLAIM, whatever the group's world was, if a number is left for a new consumer, and what is pending is
+-- The law of XAUTOCLAIM, whatever the group's world was, if a number is left for a new consumer, and what is pending is
 -- of the log.
 abbrev pub XautoclaimIsTheEvent : Type 0
 XautoclaimIsTheEvent = (key name consumer : List ℕ) (others : List (List ℕ)) (arguments : List (Vec ℕ)) (now : ℕ) (answer : Answer)

@@ -24,7 +24,7 @@ pub record IsRead (consumer : Name) (most : ℕ) (entries : List Entry) (last_id
   pub numbered : AreNumbered new
   pub given : map as_entry (take most (entries_behind old.last_id entries)) ≡ given w.deleted most w.fresh
 
--- so it is if entries are delivered, whatever the group's world was, if a number is left for a new consumer
+-- the law of this for delivered entries, whatever the group's world was, if a number is left for a new consumer
 abbrev pub HandingOutIsTheEvent : Type 0
 HandingOutIsTheEvent = (consumer : Name) (now most : ℕ) (entries : List Entry) (last_id : EntryId) (old new : Group) (w : World Fields)
     → HandsOut consumer now most false entries old new → IsModelOf entries last_id old w → AreNumbered old
@@ -46,7 +46,7 @@ pub record NewsAreRead (consumer : Name) (most : ℕ) (entries : List Entry) (la
   pub numbered : AreNumbered new
   pub answered : IsAnswer (given w.deleted most w.fresh) found
 
--- so it is if new entries are read, whatever the group's world was, if a number is left for a new consumer
+-- the law of this for new entries, whatever the group's world was, if a number is left for a new consumer
 abbrev pub ReadingNewsIsTheEvent : Type 0
 ReadingNewsIsTheEvent = (consumer : Name) (now most : ℕ) (entries : List Entry) (last_id : EntryId) (old new : Group) (w : World Fields)
     (found : Option (Vec Answer)) → AreNews consumer now most false entries old new found → IsModelOf entries last_id old w
@@ -64,7 +64,7 @@ pub record XreadgroupReads (key group consumer : List ℕ) (most : ℕ) (answer 
   pub numbered : AreNumbered model.group
   pub answered : IsAnswerWith key (given w.deleted most w.fresh) answer
 
--- so it is of XREADGROUP of one key with `>`, whatever the group's world was, if a number is left for a new consumer
+-- the law of XREADGROUP of one key with `>`, whatever the group's world was, if a number is left for a new consumer
 abbrev pub XreadgroupIsTheEvent : Type 0
 XreadgroupIsTheEvent = (key group consumer : List ℕ) (now most : ℕ) (answer : Answer) (old new : List Stream) (w : World Fields)
     → 0 < most → IsReadIn key consumer now most group answer old new → (model : IsModelIn key group (map seen_stream old) w)

@@ -49,7 +49,7 @@ pub record XreadgroupRereads (key name consumer : List ℕ) (own : List EntryId)
   pub answered : sent answer
       ≡ sent_row key (map sent_again (reread (listed (words_of_ids own)) consumer w.pending w.deleted w.seen))
 
--- So it is of XREADGROUP of one key with an id, whatever the group's world was, if a number is left for a new consumer,
+-- The law of XREADGROUP of one key with an id, whatever the group's world was, if a number is left for a new consumer,
 -- the names of the consumers ascend, what is pending is of the log, and the log ascends.
 abbrev pub XreadgroupWithAnIdIsTheEvent : Type 0
 XreadgroupWithAnIdIsTheEvent = (key group consumer : List ℕ) (now most : ℕ) (behind : EntryId) (answer : Answer) (old new : List Stream)

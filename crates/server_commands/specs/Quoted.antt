@@ -4,7 +4,7 @@ use Rattle.std.specs.Prelude.{Option, Some, None, option_map, nat_le, if◌then�
 use Rattle.server_commands.specs.declared.quoted.Place.{Place}
 use Rattle.server_commands.specs.declared.quoted.Place.TheVariants as places
 
--- what a byte of a line does: the reading goes on with this of a word; a word ends; or quotes are unbalanced
+-- what a byte of a line does: parsing goes on with this part of a word; a word ends; or quotes are unbalanced
 pub data Turn : Type 0 where
   goes : Place → List ℕ → Turn
   ends : List ℕ → Turn
@@ -59,7 +59,7 @@ unfoldable pub in_single : List ℕ → ℕ → Turn
 in_single w b = if b == 39 then goes places.Closed w
     else (if b == 92 then goes places.SingleEscape (w ++ b ∷ []) else goes places.Single (w ++ b ∷ []))
 
--- a byte of a line, by the place of the reading
+-- a byte of a line, by the state of the parser
 unfoldable pub turn : Place → List ℕ → ℕ → Turn
 turn places.Between w b = if is_blank b then goes places.Between w else in_word w b
 turn places.Inside w b = if is_end b then ends w else in_word w b
@@ -79,7 +79,7 @@ at_end places.Inside w = Some (w ∷ [])
 at_end places.Closed w = Some (w ∷ [])
 at_end _ w = None
 
--- the words from a turn on, if the parsing goes on so after it
+-- the words from a turn on, if `go` gives the words after it
 unfoldable pub behind_turn : (Place → List ℕ → Option (List (List ℕ))) → Turn → Option (List (List ℕ))
 behind_turn go (goes p w) = go p w
 behind_turn go (ends w) = option_map (λ ws. w ∷ ws) (go places.Between [])
@@ -94,11 +94,11 @@ words_from (b ∷ bs) = λ p w. behind_turn (words_from bs) (turn p w b)
 abbrev pub split_words : List ℕ → Option (List (List ℕ))
 split_words line = words_from line places.Between []
 
--- words in front of those that are read
+-- words before those that are read
 abbrev pub prefixed : List (List ℕ) → Option (List (List ℕ)) → Option (List (List ℕ))
 prefixed words read = option_map (λ ws. words ++ ws) read
 
--- a byte led on: the reading is there then; or a word was read, and it is between words
+-- the byte is accepted: the parser is in this state; or a word has ended, and the parser is between words
 abbrev pub GoesOn : Turn → List (List ℕ) → List (List ℕ) → Place → List ℕ → Type 0
 GoesOn (goes q w) old new p v = (p ≡ q) × (v ≡ w) × (new ≡ old)
 GoesOn (ends w) old new p v = (p ≡ places.Between) × (v ≡ []) × (new ≡ old ++ w ∷ [])

@@ -18,7 +18,7 @@ pub record ReadsOne (group consumer : List ℕ) (most now : ℕ) (key text : Lis
   pub news : text ≡ codes ">" → IsReadIn key consumer now most group answer old new
   pub own : (id : EntryId) → Fits id → id ≢ largest → IsWordOf id text → IsRereadIn key consumer now most id group answer old new
 
--- so it is of the words `GROUP group consumer STREAMS key id`, and with `COUNT n` of some number
+-- the words `GROUP group consumer STREAMS key id` read one stream, and the same words with `COUNT n` of some number
 pub record ReadsGroup (words : List (Vec ℕ)) (now : ℕ) (answer : Answer) (old new : List Stream) : Type 0 where
   pub plain : (a group consumer b key text : Vec ℕ) → words ≡ a ∷ group ∷ consumer ∷ b ∷ key ∷ text ∷ []
       → IsCalled a (codes "group") → IsCalled b (codes "streams")

@@ -20,18 +20,18 @@ abbrev pub sent_news : List ℕ → List Entry → Sent
 sent_news key entries = rows_of (more_rows key (array_of (item_list (map sent_entry entries))) no_rows)
 
 module _ (key name : List ℕ) (now most : ℕ) where
-  -- if nothing is new, the reply says so, and nothing changes; or the first ones are delivered, and are the reply
+  -- without new entries the reply is a null array, and nothing changes; else the first ones are delivered and replied
   abbrev pub IsAnswered : Answer → List Entry → Group → Group → List Entry → Type 0
   IsAnswered answer entries old new [] = (new ≡ old) × (sent answer ≡ no_array)
   IsAnswered answer entries old new (e ∷ es) = HandsOut name now most false entries old new
       × (sent answer ≡ sent_news key (take most (e ∷ es)))
 
-  -- so it is of the entries after the last one that the group delivered
+  -- the reply has the entries after the last one that the group delivered
   abbrev pub ReadsNews : Answer → Stream → Group → Group → Type 0
   ReadsNews answer stream old new = AreInOrder stream.entries.items
       → IsAnswered answer stream.entries.items old new (entries_behind old.last_id stream.entries.items)
 
-  -- in the group of this name of the stream of this key, a consumer reads what is new
+  -- in the group of this name of the stream of this key, a consumer reads new entries
   abbrev pub IsReadIn : List ℕ → Answer → List Stream → List Stream → Type 0
   IsReadIn group answer = IsChangedAt key (λ was is. IsGroupChangedAt group (ReadsNews answer was) was is)
 
@@ -43,7 +43,7 @@ module _ (key name : List ℕ) (now most : ℕ) where
     pub put : (new : Group) → IsPut name now read.part group new → HandsOut name now most false entries group new
     pub answered : sent read.answer ≡ sent_news key (take most news)
 
-  -- so it is if something is new
+  -- without new entries nothing is read, and otherwise the outcome is ready
   abbrev pub IsFound : List Entry → Group → List Entry → Option Outcome → Type 0
   IsFound entries group [] None = Unit {0}
   IsFound entries group [] (Some read) = ⊥

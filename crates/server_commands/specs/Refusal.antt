@@ -1,4 +1,4 @@
--- What a refusal says.
+-- The text of a refusal.
 use Rattle.std.specs.Prelude.{ℕ, List, []}
 use Rattle.server_commands.specs.declared.refusal.Refusal.{Refusal}
 use Rattle.server_commands.specs.declared.refusal.Refusal.TheVariants.{Memory, Fixed, Text}

@@ -33,7 +33,7 @@ pending_for number = filter (λ p. p.consumer == number)
 abbrev pub own_behind : ℕ → EntryId → ℕ → List Pending → List Pending
 own_behind number id most pending = take most (pending_for number (pending_behind id pending))
 
--- those of which the entry is still there
+-- those whose entry is still in the stream
 abbrev pub with_entries : List Entry → List Pending → List Pending
 with_entries entries = filter (λ p. has_entry p.id entries)
 
@@ -84,12 +84,12 @@ module _ (key name : List ℕ) (now most : ℕ) (behind : EntryId) where
     pub are_own : own ≡ own_behind delivered.number behind most old.pending.items
     pub answered : sent answer ≡ sent_row key (map (sent_own entries) own)
 
-  -- so it is if ids and names ascend, and numbers are those of consumers
+  -- the law of this, if ids and names ascend, and numbers are those of consumers
   abbrev pub ReadsOwn : Answer → Stream → Group → Group → Type 0
   ReadsOwn answer stream old new = AreInOrder stream.entries.items → IsInOrder old → NamesAscend (consumer_names old)
       → AreNumbered old → Rereads answer stream.entries.items old new
 
-  -- in the group of this name of the stream of this key, a consumer reads its own after this id
+  -- in the group of this name of the stream of this key, a consumer reads its own pending entries after this id
   abbrev pub IsRereadIn : List ℕ → Answer → List Stream → List Stream → Type 0
   IsRereadIn group answer = IsChangedAt key (λ was is. IsGroupChangedAt group (ReadsOwn answer was) was is)
 

@@ -1,4 +1,4 @@
--- Replies that say that nothing was done.
+-- Replies that report a refusal.
 use Rattle.server_commands.specs.declared.answer.Reply.{Reply}
 use Rattle.server_commands.specs.declared.answer.Reply.TheVariants.{Done, Refused, Executed}
 

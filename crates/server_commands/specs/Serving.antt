@@ -11,7 +11,7 @@ use Rattle.server_commands.specs.Sent.{reply_bytes}
 abbrev pub Turn : Type 0
 Turn = Option (Protocol × Reply)
 
--- it has one reply, or nothing if it has no words
+-- a command has one reply, or none if it has no words
 abbrev pub IsAnswered : List (List ℕ) → Turn → Type 0
 IsAnswered [] None = Unit {0}
 IsAnswered [] (Some r) = ⊥
@@ -23,13 +23,13 @@ abbrev pub turn_bytes : Turn → List ℕ
 turn_bytes None = []
 turn_bytes (Some r) = reply_bytes r.0 r.1
 
--- the commands at the front of bytes get such replies, one after the other, and these bytes are left
+-- the commands at the start of bytes get these replies, one after the other, and these bytes are left
 abbrev pub AreAnswered : List Turn → List ℕ → List ℕ → Type 0
 AreAnswered [] bytes rest = bytes ≡ rest
 AreAnswered (turn ∷ turns) bytes rest = (words : List (List ℕ)) × (behind : List ℕ)
     × (command_at bytes ≡ Ok (words, behind)) × IsAnswered words turn × AreAnswered turns behind rest
 
--- commands at the front of bytes were executed, which left these bytes, and the replies were appended
+-- commands at the start of bytes were executed, which left these bytes, and the replies were appended
 pub record Does (bytes rest before after : List ℕ) : Type 0 where
   pub turns : List Turn
   pub answered : AreAnswered turns bytes rest

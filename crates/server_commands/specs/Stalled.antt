@@ -35,8 +35,8 @@ abbrev pub with_claimed : Pending → Found → Found
 with_claimed pending found = record found { claimed = pending ∷ found.claimed }
 
 module _ (entries : List Entry) (now least_idle : ℕ) where
-  -- What a claim finds that scans and takes at most these numbers: what has no entry is gone, and what was idle long
-  -- enough is taken over.
+  -- The entries that a claim finds, which scans and takes at most these numbers: a deleted one is gone, and one that
+  -- was idle long enough is taken over.
   abbrev pub found_in : ℕ → ℕ → List Pending → Found
   found_in attempts left [] = nothing_until (record { milliseconds = 0; sequence = 0 })
   found_in attempts left (p ∷ pending) =

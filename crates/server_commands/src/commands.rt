@@ -520,7 +520,7 @@ fn room_of(
     }
 }
 
-/// Changes the group as the draft says. With the room, it allocates nothing.
+/// Applies the changes of the draft to the group. With the room, it allocates nothing.
 fn settle(streams: &mut [Stream], draft: Draft<'_>, room: Option<Room>) {
     let Ok(index) = place_of(streams, draft.key) else {
         return;

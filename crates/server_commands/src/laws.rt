@@ -33,7 +33,7 @@ pub fn xadd_is_the_event()
 
 /// If the entries and a group of a stream are those of a world of `model_server::group`, they are so after
 /// `XREADGROUP` with `>` has delivered entries of it, of the world in which the consumer reads as many. The
-/// entries are those that the world gives. It is about what `deliver_new` ensures, without `NOACK`, if the group
+/// entries are those that the world gives. It is the law of what `deliver_new` ensures, without `NOACK`, if the group
 /// has made fewer than 2 ^ 64 - 1 consumers.
 pub fn handing_out_is_the_event()
     ensures { HandingOutIsTheEvent }
@@ -46,7 +46,7 @@ pub fn reading_news_is_the_event()
 {}
 
 /// If the entries and a group of a stream are those of a world of `model_server::group`, they are so after XREADGROUP
-/// of one key with `>`, of the world in which the consumer reads as many. It is of what `read_one` ensures,
+/// of one key with `>`, of the world in which the consumer reads as many. It is the law of what `read_one` ensures,
 /// without `NOACK`. `BLOCK` does not wait. `COUNT` is the number that `options_in` parses.
 pub fn xreadgroup_is_the_event()
     ensures { XreadgroupIsTheEvent }
@@ -54,9 +54,9 @@ pub fn xreadgroup_is_the_event()
 
 /// If the entries and a group of a stream are those of a world of `model_server::group`, they are so after XREADGROUP
 /// of one key with an id, of the world in which the consumer reads its own pending entries again. The reply has
-/// those that the world gives, with nil for the fields of one that was deleted. It is of what `read_one`
-/// ensures, with `NOACK` or without. It has three premises more: the names of the group's consumers ascend,
-/// what is pending is of the log, and the log ascends.
+/// those that the world gives, with nil for the fields of one that was deleted. It is the law of what `read_one`
+/// ensures, with `NOACK` or without. It has three more premises: the names of the group's consumers ascend,
+/// the pending entries are of the log, and the log ascends.
 pub fn xreadgroup_with_an_id_is_the_event()
     ensures { XreadgroupWithAnIdIsTheEvent }
 {}

@@ -86,7 +86,7 @@ impl Model for LoopbackWriter {
 }
 
 impl Loopback {
-    /// Connections to this server, whose clock is at 0. An `Err` says that an allocation failed.
+    /// Connections to this server, whose clock is at 0. It is an `Err` if an allocation failed.
     pub fn new(alloc: Global, server: Server) -> io::Result<Loopback>
         ensures ok { IfOk result (λ loopback. loopback ≡ 0) }
         ensures err { IfErr result (λ e. error_kind e ≡ ErrorKind.OutOfMemory) }
@@ -102,7 +102,7 @@ impl Loopback {
         })
     }
 
-    /// A new connection that does not break. An `Err` says that an allocation failed.
+    /// A new connection that does not break. It is an `Err` if an allocation failed.
     pub fn connect(&self) -> io::Result<(LoopbackReader, LoopbackWriter)>
         ensures ok { IfOk result (λ ends. (ends.0 ≡ None) × (ends.1 ≡ None)) }
         ensures err { IfErr result (λ e. error_kind e ≡ ErrorKind.OutOfMemory) }

@@ -43,7 +43,7 @@ impl Server {
     /// Executes a command, its name and its arguments, at the time `now`, in milliseconds, and replies as
     /// redis-server does, without ever blocking. After MULTI it is queued, and EXEC executes what is queued.
     ///
-    /// A command that is refused changes no stream. An `Err` says that an allocation failed: it changes no
+    /// A command that is refused changes no stream. An `Err` means that an allocation failed: it changes no
     /// stream either, nor the session.
     pub fn step(
         &mut self,

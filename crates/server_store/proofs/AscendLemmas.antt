@@ -15,7 +15,7 @@ use Rattle.server_store.specs.declared.entry_id.EntryId.{EntryId}
 flipped : (a b : EntryId) → id_order a b ≡ Greater → id_order b a ≡ Less
 flipped a b greater = grind (arith, nat_tests)
 
--- what stands where after one more came in
+-- the elements at each index after an insertion
 placed : {X : Type 0} (xs : List X) (i : ℕ) (y : X) (k : ℕ) (d : X) → i ≤ length xs
     → ((k < i) × (get_or (insert xs i y) k d ≡ get_or xs k d))
     ⊎ (((k ≡ i) × (get_or (insert xs i y) k d ≡ y)) ⊎ ((i < k) × (get_or (insert xs i y) k d ≡ get_or xs (k - 1) d)))
@@ -35,7 +35,7 @@ module _ {X : Type 0} (id_of : X → EntryId) where
   pub less_as : (a b x y : X) → a ≡ x → b ≡ y → id_order (id_of x) (id_of y) ≡ Less → id_order (id_of a) (id_of b) ≡ Less
   less_as a b x y p q less = rw (p, q) less
 
-  -- one more in its gap
+  -- an element is inserted in its gap
   pub ascending_insert : (xs : List X) (i : ℕ) (y : X) → i ≤ length xs → IsGapFor id_of (id_of y) xs i
       → IsAscending id_of xs → IsAscending id_of (insert xs i y)
   ascending_insert xs i y l gap up a b d lt bound =
@@ -72,14 +72,14 @@ module _ {X : Type 0} (id_of : X → EntryId) where
     ]
   ]
 
-  -- one that takes the place of what had its id
+  -- an element replaces the one with its id
   pub ascending_set : (xs : List X) (i : ℕ) (y : X) → i < length xs → ((d : X) → id_of (get_or xs i d) ≡ id_of y)
       → IsAscending id_of xs → IsAscending id_of (set xs i y)
   ascending_set xs i y within named up a b d lt bound =
       let long = length-set xs i y in
       rw (same_id xs i y a d within (named d), same_id xs i y b d within (named d)) (up a b d lt (omega arith))
 
-  -- where an element stood that is left
+  -- the elements at each index after a removal
   stood : (xs : List X) (i k : ℕ) (d : X) → i < length xs
       → ((k < i) × (get_or (remove xs i) k d ≡ get_or xs k d)) ⊎ ((i ≤ k) × (get_or (remove xs i) k d ≡ get_or xs (k + 1) d))
   stood xs i k d within = elim (cases_lt k i) [
@@ -87,7 +87,7 @@ module _ {X : Type 0} (id_of : X → EntryId) where
     | inr ge ↦ inr (ge, get_or-remove_above xs i d k ge within)
   ]
 
-  -- one less
+  -- an element is removed
   pub ascending_remove : (xs : List X) (i : ℕ) → i < length xs → IsAscending id_of xs → IsAscending id_of (remove xs i)
   ascending_remove xs i within up a b d lt bound =
       let long = length-remove xs i within in
@@ -103,12 +103,12 @@ module _ {X : Type 0} (id_of : X → EntryId) where
       (at b))
       (at a)
 
-  -- those behind the first ones
+  -- the elements after the first ones
   pub ascending_drop : (n : ℕ) (xs : List X) → IsAscending id_of xs → IsAscending id_of (drop n xs)
   ascending_drop n xs up a b d lt bound =
       let long = length-drop n xs in
       less_as _ _ _ _ (get_or-drop n xs a d) (get_or-drop n xs b d) (up (n + a) (n + b) d (omega (arith, lt)) (omega arith))
 
--- what stands at an index, whatever is read past the end
+-- the element at an index, whatever is read past the end
 pub stands_in_bounds : {X : Type 0} (xs : List X) (i : ℕ) (x d : X) → i < length xs → get_or xs i x ≡ x → get_or xs i d ≡ x
 stands_in_bounds xs i x d lt stood = get_or_default xs i d x lt ∙ stood

@@ -29,7 +29,7 @@ not_before : (a b : EntryId) → id_order a b ≡ Less → id_order b a ≡ Less
 not_before a b less more = grind (arith, nat_tests)
 
 module _ {X : Type 0} (id_of : X → EntryId) (xs : List X) (id : EntryId) where
-  -- the comparisons with the id rise along the list, as a binary search asks
+  -- the comparisons with the id rise along the list, as a binary search requires
   comparisons_rise : IsAscending id_of xs → IsNonDecreasingBy (λ x. ordering_index (id_order (id_of x) id)) xs
   comparisons_rise ascending i j d le within = elim (cases_lt i j) [
     | inl lt ↦ rises _ _ id (ascending i j d lt within)

@@ -17,7 +17,7 @@ with_more number c =
 abbrev pub with_less : ℕ → Consumer → Consumer
 with_less number c = if c.number == number then record c { pending = c.pending - 1 } else c
 
--- it replaces what was pending with its id, which one consumer has less then
+-- it replaces the pending entry with its id, which is no longer counted for the consumer that had it
 pub record IsRegiven (p : Pending) (old new : Group) : Type 0 where
   pub index : ℕ
   pub was : Pending
@@ -40,7 +40,7 @@ pub record IsGivenNew (p : Pending) (old new : Group) : Type 0 where
   pub is : new.pending.items ≡ insert old.pending.items index p
   pub counts : new.consumers.items ≡ map (with_more p.consumer) old.consumers.items
 
--- it is pending, what was pending beside it stays, and one more is pending for its consumer
+-- it is pending, the other pending entries stay, and one more is pending for its consumer
 abbrev pub IsGiven : Pending → Group → Group → Type 0
 IsGiven p old new = IsRegiven p old new ⊎ IsGivenNew p old new
 

@@ -8,6 +8,6 @@ use Rattle.server_store.specs.declared.room.Room.{Room}
 abbrev pub IsOpenFor : ℕ → Group → Type 0
 IsOpenFor more g = deque_len g.pending + more ≤ deque_capacity g.pending
 
--- so it is, or the room has memory for them and for those that are pending in the group
+-- the group has memory for them, or the room has memory for them and for those that are pending in the group
 abbrev pub HasPlaces : ℕ → Room → Group → Type 0
 HasPlaces more room g = IsOpenFor more g ⊎ (deque_len g.pending + more ≤ deque_capacity room.pending)

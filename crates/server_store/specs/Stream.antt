@@ -57,14 +57,14 @@ abbrev pub first_id_of : List Entry → EntryId
 first_id_of [] = record { milliseconds = 0; sequence = 0 }
 first_id_of (entry ∷ entries) = entry.id
 
--- the largest id that was deleted is neither before this one nor before the first that is there
+-- the largest deleted id is not before this one, and not before the id of the first entry
 pub record IsTombstoneFrom (id : EntryId) (s : Stream) : Type 0 where
   pub some : s.entries.items ≢ []
   pub deleted : s.max_deleted_id ≢ record { milliseconds = 0; sequence = 0 }
   pub first : id_order (first_id_of s.entries.items) s.max_deleted_id ≢ Greater
   pub behind : id_order id s.max_deleted_id ≢ Greater
 
--- the entry at this index is one of those of the node at this place
+-- the entry at this index is in the node at this index
 abbrev pub IsWithin : ℕ → List Node → ℕ → Type 0
 IsWithin index nodes place = (sum_by (λ node. node.live) (take place nodes) ≤ index)
     × (index < sum_by (λ node. node.live) (take (place + 1) nodes))
@@ -76,7 +76,7 @@ pub record IsOneLess (place : ℕ) (old new : List Node) : Type 0 where
   pub less : 1 < node.live → new ≡ set old place (record node { live = node.live - 1 })
   pub last : node.live ≤ 1 → new ≡ remove old place
 
--- so it is of the node of the entry at this index
+-- the node of the entry at this index has one entry less
 pub record IsLessAt (index : ℕ) (old new : List Node) : Type 0 where
   pub place : ℕ
   pub within : IsWithin index old place

@@ -26,13 +26,13 @@ abbrev pub goes : Trim → ℕ → ℕ → Node → Bool
 goes trim len taken node =
     nat_le (taken + node.live) len && ((trim.limit == 0 || nat_le (taken + node.live) trim.limit) && lets_go trim.bound len taken node)
 
--- how many entries are removed with the first whole nodes, by how many were removed before
+-- the number of entries that the first whole nodes have, by the number that was removed before
 abbrev pub whole_from : Trim → ℕ → ℕ → List Node → ℕ
 whole_from trim len taken [] = taken
 whole_from trim len taken (node ∷ nodes) =
     cond (goes trim len taken node) (whole_from trim len (taken + node.live) nodes) taken
 
--- `count` of the oldest entries are removed, as many as the trim says, and the others stay
+-- `count` of the oldest entries are removed, by the trim, and the others stay
 pub record IsTrimmed (trim : Trim) (count : ℕ) (old new : Stream) : Type 0 where
   pub entries : new.entries.items ≡ drop count old.entries.items
   pub exact : trim.is_approximate ≡ false → IsExactCount trim.bound old.entries.items count

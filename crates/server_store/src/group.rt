@@ -306,7 +306,7 @@ impl Group {
         Ok(())
     }
 
-    /// The same of a held one. If the group has memory for one more, it allocates nothing.
+    /// The same of a held pending entry. If the group has memory for one more, it allocates nothing.
     pub fn put(&mut self, held: Held) -> Result<(), AllocError>
         ensures ok { OnOk result (IsGiven held self.old self.new) }
         ensures err { OnErr result (self.new.pending.items ≡ self.old.pending.items) }
@@ -378,7 +378,7 @@ impl Group {
         true
     }
 
-    /// Removes the consumer with its pending entries, and returns how many these were.
+    /// Removes the consumer with its pending entries, and returns the number of these.
     pub fn remove_consumer(&mut self, name: &[u8]) -> u64
         ensures removed { IsRemoved name.now result self.old self.new }
         ensures others { self.new ≡ record self.old { pending = self.new.pending; consumers = self.new.consumers } }

@@ -179,7 +179,7 @@ impl Stream {
         true
     }
 
-    /// Removes the oldest entries, as many as the trim says, and returns how many these were.
+    /// Removes the oldest entries, as the trim asks for, and returns their number.
     pub fn trim(&mut self, trim: Trim) -> usize
         ensures { IsTrimmed trim result self.old self.new }
     {

@@ -11,7 +11,7 @@ use itoa::Buffer;
 use server_store::{Consumer, EntryId, Group, Pending, Stream};
 use std::alloc::{AllocError, Global};
 
-/// Which pending entries are asked for.
+/// Which pending entries are requested.
 #[derive(Clone, Copy)]
 struct Wanted<'a> {
     start: EntryId,

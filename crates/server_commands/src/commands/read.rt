@@ -686,7 +686,7 @@ struct Outcome {
     room: Room,
 }
 
-/// Reads one stream for the consumer of a group, from where the word says.
+/// Reads one stream for the consumer of a group, from the id in this word, or new entries for `>`.
 fn read_one(
     alloc: Global,
     streams: &mut [Stream],

@@ -96,7 +96,7 @@ fn is_asked(words: &[Vec<u8>], name: &str) -> bool {
     names.is_empty()
 }
 
-/// Whether the word asks for every section.
+/// Whether the word selects every section.
 fn is_every(word: &[u8]) -> bool {
     is_word(word, "all") || is_word(word, "default") || is_word(word, "everything")
 }

@@ -2,7 +2,7 @@ use Rattle.std.proofs.Common.{length}
 use Rattle.server_commands.specs.Serving.{Does}
 use Rattle.server_commands.proofs.client.answer_all.Given as goal
 
--- the commands so far were answered
+-- the commands so far got their replies
 abbrev pub invariant-commands : goal.invariant-commands
 invariant-commands l = Does l.bytes l.rest l.initial.answers.items l.answers.items
 

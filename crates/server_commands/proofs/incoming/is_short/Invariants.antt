@@ -1,7 +1,7 @@
 use Rattle.server_commands.specs.Incoming.{IsScan}
 use Rattle.server_commands.proofs.incoming.is_short.Given as goal
 
--- what was looked through says where the command goes on
+-- the scanned part determines where the command goes on
 abbrev pub invariant-words : goal.invariant-words
 invariant-words l = IsScan l.scan l.bytes
 

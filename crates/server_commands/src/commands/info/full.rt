@@ -94,7 +94,7 @@ fn consumer_in_full(
     Ok(Answer::Map(rows))
 }
 
-/// What is pending for all, or for the one consumer that is asked for.
+/// The pending entries of all consumers, or of the one with this number.
 fn pending_rows(
     alloc: Global,
     group: &Group,
@@ -123,7 +123,7 @@ fn pending_rows(
     Ok(rows)
 }
 
-/// The id, the consumer's name unless one is asked for, when it was given, and how often.
+/// The id, the consumer's name unless one consumer is requested, the delivery time, and the delivery count.
 fn pending_row(
     alloc: Global,
     group: &Group,

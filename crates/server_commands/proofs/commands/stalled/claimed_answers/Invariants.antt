@@ -4,7 +4,7 @@ use Rattle.server_commands.specs.Claiming.{entries_with, ids_of, sent_claimed}
 use Rattle.server_commands.specs.Sent.{sent}
 use Rattle.server_commands.proofs.commands.stalled.claimed_answers.Given as goal
 
--- the entries of what is claimed so far are answers
+-- the claimed entries so far are replies
 abbrev pub invariant-loop-pending : goal.invariant-loop-pending
 invariant-loop-pending l =
     AreInOrder l.stream.entries.items → map sent l.answers.items

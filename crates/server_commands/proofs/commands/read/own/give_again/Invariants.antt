@@ -5,7 +5,7 @@ use Rattle.server_commands.specs.Acknowledging.{names_of}
 use Rattle.server_commands.specs.Claiming.{after_claim, ids_of}
 use Rattle.server_commands.proofs.commands.read.own.give_again.Given as goal
 
--- the entries so far are given over
+-- the entries so far are redelivered
 abbrev pub invariant-loop-pending : goal.invariant-loop-pending
 invariant-loop-pending l = record {
   given : IsInOrder l.initial.group → AllByRecursion (Contains l.initial.group.pending.items) l.delivered

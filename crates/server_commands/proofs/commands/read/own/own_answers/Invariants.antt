@@ -4,7 +4,7 @@ use Rattle.server_commands.specs.Rereading.{sent_own}
 use Rattle.server_commands.specs.Sent.{sent}
 use Rattle.server_commands.proofs.commands.read.own.own_answers.Given as goal
 
--- each so far is answered
+-- each so far has its reply
 abbrev pub invariant-loop-pending : goal.invariant-loop-pending
 invariant-loop-pending l =
     AreInOrder l.stream.entries.items → map sent l.answers.items
