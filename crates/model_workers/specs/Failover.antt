@@ -1,4 +1,4 @@
--- A worker that checks its file and asks WAIT, over a server that may go back.
+-- A worker that checks its file and sends WAIT, over a server that may fail over.
 pub mod Keeps
 pub mod Rounds
 pub mod Schedule

@@ -1,4 +1,4 @@
--- Entries that are given up over a connection are moves of the model `model_workers::system`.
+-- Giving up entries over a connection is a list of moves of the model `model_workers::system`.
 use Rattle.std.specs.Prelude.{◌≡◌, ℕ, zero, suc, List, [], ◌∷◌, ◌++◌}
 use Rattle.redis_connection.specs.Link.{Link}
 use Rattle.worker.specs.Letters.{Entry}
@@ -11,7 +11,7 @@ use Rattle.worker.specs.Letters.{Desk, after_letter, letter_asks}
 use Rattle.worker.specs.DeadLetters.Dead.{Claimer, Goes, PostsAll, GivesUp}
 use Rattle.worker.specs.declared.dead_letters.search.Waiting.{Waiting}
 
--- the moves that queue these entries, if the replies that have them are of these numbers, from that one on
+-- the moves that queue these entries, if the replies with them have these numbers, from that one on
 abbrev pub posting : Name → (ℕ → ℕ) → ℕ → List Entry → List Move
 posting name which k [] = []
 posting name which k (e ∷ es) = Posts name (which k) e ∷ posting name which (suc k) es
@@ -21,7 +21,7 @@ abbrev pub desk_after : ℕ → Desk → Desk
 desk_after zero d = d
 desk_after (suc n) d = after_letter (letter_asks (desk_after n d)) (desk_after n d)
 
--- the moves of this number of replies, if those to an XACK are of these numbers
+-- the moves for this number of replies, if those to an XACK have these numbers
 abbrev pub delivering : Name → (ℕ → ℕ) → ℕ → Desk → List Move
 delivering name which zero d = []
 delivering name which (suc n) d =
@@ -42,7 +42,7 @@ DeliveriesAreMoves = (names : Names) (n : ℕ) (old new : Link) (desk desk' : De
     → AreOfDesk name (delivering name which n desk)
     × IsDesk names.2 desk' ((run form (delivering name which n desk) s).desks name)
 
--- and after all of them the model's queue is empty too
+-- and after all of them the model's queue is also empty
 abbrev pub GiveUpsAreMoves : Type 0
 GiveUpsAreMoves = (c : Claimer) (names : Names) (ws : List Waiting) (old new : Link) (g : GivesUp c names ws old new)
     (form : Form) (s : System) (name : Name) (claimed answered : ℕ → ℕ) → s.desks name ≡ new_desk

@@ -1,4 +1,4 @@
--- What the contract of a loop of rounds speaks of.
+-- The definitions for the contract of a loop of rounds.
 pub mod Loop
 pub mod Shown
 pub mod Lived

@@ -1,6 +1,6 @@
-//! Workers of a group, each with a file of lines of its own, as a pure machine, and what holds of
-//! the files after every schedule. Its functions are laws, and two calls of `worker_journal` of which the
-//! contracts speak of the machine.
+//! Workers of a group, each with a file of lines of its own, as a state machine, and what holds for
+//! the files after every schedule. Its functions are laws, and two calls of `worker_journal` whose
+//! contracts refer to the machine.
 
 pub mod laws;
 pub mod log;

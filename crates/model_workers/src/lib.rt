@@ -1,5 +1,5 @@
-//! Workers that do what their contracts say, over one server, each with a file of lines, as pure machines. Its
-//! functions are laws, and two calls of the journal whose contracts speak of the machine.
+//! Workers that fulfil their contracts, over one server, each with a file of lines, as state machines. Its
+//! functions are laws, and two calls of the journal whose contracts refer to the machine.
 #![tactic(auto)]
 
 pub mod failover;

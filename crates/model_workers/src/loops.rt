@@ -1,6 +1,6 @@
-//! A loop of rounds of a worker over one connection: the definitions of its contract, and what holds of it.
+//! A loop of rounds of a worker over one connection: the definitions for its contract, and what holds for it.
 //!
-//! `Loops` and `Stops` (specs/Loop.antt) list the rounds that were made, and the commands between them. `Leads`
-//! (specs/Shown.antt) says the same of a handler that keeps something of its own, as lines or rows.
+//! `Loops` and `Stops` (specs/Loops/Loop.antt) list the rounds that were made, and the commands between them. `Leads`
+//! (specs/Loops/Shown.antt) states the same for a handler with a state of its own, such as lines or rows.
 
 pub mod laws;

@@ -7,14 +7,14 @@ use Rattle.model_server.specs.Group.Worker.{Delivered, Entry, Verdict, done, lef
 use Rattle.worker.specs.Gathered.{Doings, committed_too}
 use Rattle.worker.specs.Handling.{with_all}
 
--- what a handler does with a verdict and with a commit, and its state with these lines added over a file
+-- the state of a handler after a verdict and after a commit, and its state with these lines added over a file
 pub record Keeps (R : Type 0) : Type 0 where
   pub with_verdict : R → Entry Fields → Verdict → R
   pub with_commit : R → R
   pub written : (lines file : List (Entry Fields)) → R
 
--- it checks its file as the consumer of `model_server::failover` does: an entry whose id has a line gets no second one. A
--- commit puts the lines at the end of the file
+-- it checks its file like the consumer of `model_server::failover`: an entry whose id has a line gets no second one. A
+-- commit appends the lines to the file
 pub record LooksUp {R : Type 0} (k : Keeps R) : Type 0 where
   pub reply : (lines file : List (Entry Fields)) (es : List (Delivered Fields)) (verdicts : List Verdict)
       → with_all k.with_verdict (k.written lines file) (told_in es verdicts)

@@ -37,7 +37,7 @@ pub record IsConsumer {R : Type 0} (k : Keeps R) (v : Standing R) (c : Consumer 
   pub answer : c.answer ≡ None
   pub history : v.history ≡ k.written c.lines c.file
 
--- the event is none of this consumer; and if `calm`, it is no failover
+-- the event is not of this consumer; and if `calm`, it is not a failover
 abbrev pub IsBesides : (calm : Bool) → Event Fields → Type 0
 IsBesides calm (Plain event) = IsOfOthers event
 IsBesides calm (Arrive_waits executes asked said) = Unit {0}
@@ -49,57 +49,57 @@ abbrev pub AreBesides : (calm : Bool) → List (Event Fields) → Type 0
 AreBesides calm [] = Unit {0}
 AreBesides calm (e ∷ es) = IsBesides calm e × AreBesides calm es
 
--- what becomes of the question of a round, and of the WAIT after it
+-- the outcome of the request of a round, and of the WAIT after it
 pub data Fate : Type 0 where
-  -- it comes to the server in this round. Of pending entries the server picks these, and it says from which id the
-  -- next claim goes on. `said` replicas confirm it
+  -- it arrives at the server in this round. The server picks these of the pending entries, and returns the id from
+  -- which the next claim continues. `said` replicas confirm it
   comes : (pick : Id → Bool) (next : Id) (said : ℕ) → Fate
-  -- the server refuses it, or it comes later, or never. A question for entries that comes later is an event of others
+  -- the server refuses it, or it arrives later, or never. A late request for entries is an event of others
   comes_not : Fate
 
--- what others do in a round, and what becomes of its question. If `calm`, the server does not fail over
+-- what others do in a round, and the outcome of its request. If `calm`, the server does not fail over
 pub record Meantime (calm : Bool) : Type 0 where
   pub before : List (Event Fields)  -- before the commit
-  pub earlier : List (Event Fields)  -- after that, before the question comes to the server
+  pub earlier : List (Event Fields)  -- after that, before the request arrives at the server
   pub fate : Fate
-  pub later : List (Event Fields)  -- after that, before the worker takes the reply
+  pub later : List (Event Fields)  -- after that, before the worker gets the reply
   pub before_besides : AreBesides calm before
   pub earlier_besides : AreBesides calm earlier
   pub later_besides : AreBesides calm later
 
--- a question for entries comes to the server, with a WAIT after it, or without
+-- a request for entries arrives at the server, with or without a WAIT after it
 abbrev pub asks_with : Option Wait → ℕ → (Id → Bool) → Id → ℕ → Event Fields
 asks_with None n pick next said = Plain (Ask n pick next)
 asks_with (Some w) n pick next said = Ask_waits n pick next w.replicas said
 
--- the question of a round, with COUNT n: an XACK of these ids, and of entries if there are none
+-- the request of a round, with COUNT n: an XACK of these ids, or a request for entries if there are none
 abbrev pub question_events : Option Wait → ℕ → Fate → (to_acknowledge : List Id) → List (Event Fields)
 question_events wait n (comes pick next said) [] = asks_with wait n pick next said ∷ []
 question_events wait n (comes pick next said) (i ∷ ids) = Plain Acknowledge_now ∷ []
 question_events wait n comes_not [] = []
 question_events wait n comes_not (i ∷ ids) = Plain Acknowledge_later ∷ []
 
--- this many replicas confirm it
+-- this number of replicas confirm it
 abbrev pub IsSaid : Fate → ℕ → Type 0
 IsSaid (comes pick next said) n = said ≡ n
 IsSaid comes_not n = Unit {0}
 
 module _ {R : Type 0} (k : Keeps R) (wait : Option Wait) (settings : Settings) (v : Standing R) where
-  -- the worker as it asks
+  -- the worker as it sends its request
   abbrev pub now_asking : Standing R
   now_asking = asking k.with_commit settings v
 
   module _ {calm : Bool} (m : Meantime calm) where
-    -- what happens in a round until its question comes to the server
+    -- the events of a round until its request arrives at the server
     abbrev pub until_asked : List (Event Fields)
     until_asked = m.before ++ (map Plain (committing v.machine) ++ m.earlier)
 
-    -- the question
+    -- the request
     abbrev pub question : List (Event Fields)
     question = question_events wait (count_asked settings (at_request v.machine).phase) m.fate
         (at_request v.machine).to_acknowledge
 
-    -- what happens until the worker has a reply, or knows that none comes
+    -- the events until the worker has a reply, or knows that none arrives
     abbrev pub until_replied : List (Event Fields)
     until_replied = until_asked ++ (question ++ m.later)
 
@@ -108,13 +108,13 @@ module _ {R : Type 0} (k : Keeps R) (wait : Option Wait) (settings : Settings) (
     HearsTheReply s w reply =
         IsHeard (run s until_replied w).now.consumer.answer (hears settings now_asking.asked reply)
 
-    -- a round that fails, after this was handled of its reply. If nothing was sent, the worker may have committed
+    -- a round that fails, after these events of its reply. If nothing was sent, the worker may have committed
     abbrev pub events_by : RunError → (handled : List (Event Fields)) → List (Event Fields)
     events_by (causes.Request e) handled = map Plain (unasked_events v.machine e)
     events_by e handled = until_replied ++ (handled ++ Plain Reconnect ∷ [])
 
 module _ {R : Type 0} (k : Keeps R) (settings : Settings) where
-  -- what was handled of a reply: some entries, if memory ran out after them
+  -- the handling of a reply: some entries, if memory ran out after them
   abbrev pub cut_by : {A : Type 0} {asked : Asked} {t : Tree} {m n : Machine} {r s : R}
       → A ⊎ WasCut k.with_verdict settings asked t m n r s → List (Event Fields)
   cut_by (inl none) = []
@@ -126,14 +126,14 @@ module _ {R : Type 0} (k : Keeps R) (settings : Settings) where
   handled_of asked a m n r s e f = []
 
 module _ {R : Type 0} (k : Keeps R) (settings : Settings) (v x : Standing R) where
-  -- ---- a round that returns Ok
+  -- ---- a round that returns `Ok`
 
-  -- with a WAIT, or without
+  -- with or without a WAIT
   abbrev pub IsRound : Option Wait → (old new : Link) → Asked → Progress → Type 0
   IsRound None old new asked p = Turned k.with_verdict k.with_commit settings old new v x asked p
   IsRound (Some w) old new asked p = IsConfirmedRound k.with_verdict k.with_commit settings w old new v x asked p
 
-  -- the reply that came, and what the handler said
+  -- the reply that arrived, and the verdicts of the handler
   abbrev pub turn_of : (wait : Option Wait) (old new : Link) (asked : Asked) (p : Progress)
       → IsRound wait old new asked p → Turn
   turn_of None old new asked p r = r.turn
@@ -147,7 +147,7 @@ module _ {R : Type 0} (k : Keeps R) (settings : Settings) (v x : Standing R) whe
 
   -- ---- a round that fails
 
-  -- the same of a round that fails
+  -- the same for a round that fails
   abbrev pub handled : (old new : Link) (e : RunError)
       → Fails k.with_verdict k.with_commit settings old new v x e → List (Event Fields)
   handled old new (causes.Answer e) f =
@@ -160,19 +160,19 @@ module _ {R : Type 0} (k : Keeps R) (settings : Settings) (v x : Standing R) whe
         → Fails k.with_verdict k.with_commit settings old new v x e → List (Event Fields)
     events_of old new e f = events_by k wait settings v m e (handled old new e f)
 
-    -- the premise of the reply, if one came
+    -- the premise of the reply, if one arrived
     abbrev pub HearsIt : Setting Fields → World Fields → (old new : Link) (e : RunError)
         → Fails k.with_verdict k.with_commit settings old new v x e → Type 0
     HearsIt s w old new (causes.Answer e) f = HearsTheReply k wait settings v m s w f.1.0
     HearsIt s w old new e f = Unit {0}
 
-  -- with a WAIT, or without
+  -- with or without a WAIT
   abbrev pub IsFailure : Option Wait → (old new : Link) → RoundError → Type 0
   IsFailure None old new (ends.Run e) = Fails k.with_verdict k.with_commit settings old new v x e
   IsFailure None old new (ends.Unconfirmed e) = ⊥
   IsFailure (Some w) old new e = FailsConfirmed k.with_verdict k.with_commit settings w old new v x e
 
-  -- the events of such a round. In one that is not confirmed nothing is handled
+  -- the events of such a round. In one that is not confirmed no entry is handled
   abbrev pub failure_events : (wait : Option Wait) (m : Meantime false) (old new : Link) (e : RoundError)
       → IsFailure wait old new e → List (Event Fields)
   failure_events None m old new (ends.Run e) f = events_of None m old new e f
@@ -192,28 +192,28 @@ module _ {R : Type 0} (k : Keeps R) (settings : Settings) (v x : Standing R) whe
 
 -- ---- a break, a crash and a start
 
--- the worker begins again over another connection
+-- the worker starts over on another connection
 abbrev pub again : {R : Type 0} → Standing R → Standing R
 again v = record v { machine = begins_again v.machine }
 
--- when a crash comes. The server may have failed over
+-- the moment of a crash. The server may have failed over
 pub data Moment : Type 0 where
-  -- between two rounds, or before the end of a commit, after this happened
+  -- between two rounds, or before the end of a commit, after these events
   between : (before : List (Event Fields)) → AreBesides false before → Moment
   -- in a round, after its commit
   within : (m : Meantime false) → Moment
 
--- what happened in that round
+-- the events in that round
 abbrev pub events_until : {R : Type 0} → Keeps R → Option Wait → Settings → Standing R → Moment → List (Event Fields)
 events_until k wait settings v (between before others) = before
 events_until k wait settings v (within m) = until_replied k wait settings v m
 
--- the entries whose lines a crash leaves in the file: all that are committed. Of the others the first `kept` are there too,
--- if the crash cut a commit off
+-- the entries whose lines a crash leaves in the file: all committed ones. Of the others the first `kept` are there too,
+-- if the crash interrupted a commit
 abbrev pub file_left : Consumer Fields → (kept : ℕ) → List (Entry Fields)
 file_left c kept = c.file ++ take kept c.lines
 
--- how many of them the last commit added
+-- the number of them that the last commit added
 abbrev pub added_last : Consumer Fields → (kept : ℕ) → ℕ
 added_last c kept = last_added c.last_commit (take kept c.lines)
 

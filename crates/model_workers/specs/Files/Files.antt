@@ -1,4 +1,4 @@
--- A stream with its group, the file of each worker, and the letters of what was given up; and what may happen.
+-- A stream with its group, the file of each worker, and the dead letters of given-up entries; and the possible events.
 use Rattle.std.specs.Prelude.{◌≡◌, ℕ, List, [], ◌∷◌, ◌++◌, ◌==◌, ◌&&◌, ◌||◌, Bool, true, false, not, filter, flat_map}
 use Rattle.std.specs.Prelude.{if◌then◌else◌}
 use Rattle.worker_journal.specs.EntryLine.{Entry}
@@ -27,7 +27,7 @@ abbrev pub has_end : List ℕ → Bool
 has_end [] = false
 has_end (b ∷ bs) = b == 10 || has_end bs
 
--- the bytes up to the last line feed: what is left once a file is opened and repaired
+-- the bytes up to the last line feed: those that remain once a file is opened and repaired
 abbrev pub whole_lines : List ℕ → List ℕ
 whole_lines [] = []
 whole_lines (b ∷ bs) = if has_end (b ∷ bs) then b ∷ whole_lines bs else []
@@ -50,30 +50,30 @@ is_in form bytes e = has_line_from true (form.line e) bytes
 
 pub record Files : Type 0 where
   pub stream : World Fields  -- the stream, its group and its workers
-  pub file : Name → List ℕ  -- of each worker's file the bytes that no crash takes back
-  pub letters : List Entry  -- the entries whose letter was added, and the reply to that came
+  pub file : Name → List ℕ  -- the bytes of each worker's file that no crash removes
+  pub letters : List Entry  -- the entries whose dead letter was added, and the reply to that arrived
 
--- nothing was added yet, and each worker has opened its file, which had these bytes before
+-- no entry was added yet, and each worker has opened its file, which had these bytes before
 abbrev pub first_files : (Name → List ℕ) → Files
 first_files before = record { stream = empty_world; file = λ name. whole_lines (before name); letters = [] }
 
--- what may happen next. A commit that fails is no event: no byte of it is committed
+-- the possible events. A commit that fails is no event: no byte of it is committed
 pub data Event : Type 0 where
-  -- something of `model_server::group`
+  -- an event of `model_server::group`
   Goes : (event : group.Event Fields) → Event
-  -- a worker commits what its handler did. Each of these entries was given up: its letter was added, and the reply
-  -- came. Of each other entry a line is written and synced
+  -- a worker commits what its handler did. Each of these entries was given up: its dead letter was added, and the reply
+  -- arrived. For each other entry a line is written and synced
   Commits : (consumer : Name) (gives_up : Entry → Bool) → Event
   -- a worker crashes, and is started again. Its file has what was committed and any bytes after it, and is cut after
-  -- its last line feed. What its handler did and is a line of the file is committed. It reads lines of its file back,
-  -- and begins to acknowledge those of these ids that they name
+  -- its last line feed. Each entry that its handler did and that is a line of the file is committed. It reads lines of
+  -- its file back, and begins to acknowledge those of these ids that are in them
   Reopens : (consumer : Name) (every : ℕ) (torn : List ℕ) (ids : List Id) → Event
 
 -- the lines that a commit writes
 abbrev pub batch : Form → Files → Name → (Entry → Bool) → List ℕ
 batch form f consumer gives_up = lines form (filter (λ e. not (gives_up e)) (f.stream.loose consumer))
 
--- a worker's lines are committed, and its letters were added
+-- a worker's lines are committed, and its dead letters were added
 abbrev pub commits : Form → Files → Name → (Entry → Bool) → Files
 commits form f consumer gives_up = record {
   stream = group.happens f.stream (Commit consumer);
@@ -85,18 +85,18 @@ commits form f consumer gives_up = record {
 abbrev pub repaired : Files → Name → List ℕ → List ℕ
 repaired f consumer torn = whole_lines (f.file consumer ++ torn)
 
--- of all that is committed then, what is a line of that file
+-- the committed entries that are lines of that file then
 abbrev pub read_back : Form → Files → Name → List ℕ → List Entry
 read_back form f consumer torn =
     let is_there : Entry → Bool = is_in form (repaired f consumer torn) in
     filter is_there (committed_after f.stream consumer is_there)
 
--- the crash of `model_server::group` that this is
+-- the crash of `model_server::group` that corresponds to this
 abbrev pub crash_of : Form → Files → Name → ℕ → List ℕ → List Id → group.Event Fields
 crash_of form f consumer every torn ids =
     Crash consumer every (is_in form (repaired f consumer torn)) (among_ids (read_back form f consumer torn) ids)
 
--- a worker has the whole lines of what a crash left, and begins to acknowledge those of these ids that are in it
+-- a worker has the whole lines that a crash left, and begins to acknowledge those of these ids that are in it
 abbrev pub reopens : Form → Files → Name → ℕ → List ℕ → List Id → Files
 reopens form f consumer every torn ids = record {
   stream = group.happens f.stream (crash_of form f consumer every torn ids);
@@ -104,13 +104,13 @@ reopens form f consumer every torn ids = record {
   letters = f.letters;
 }
 
--- an event of `model_server::group`: a commit gives up nothing, and a crash leaves nothing but what is committed
+-- an event of `model_server::group`: a commit gives up no entry, and a crash leaves only what is committed
 abbrev pub goes : Form → Files → group.Event Fields → Files
 goes form f (Commit consumer) = commits form f consumer (λ e. false)
 goes form f (Crash consumer every keeps ids) = reopens form f consumer every [] ids
 goes form f event = record f { stream = group.happens f.stream event }
 
--- what an event makes of the files
+-- the files after an event
 abbrev pub happens : Form → Files → Event → Files
 happens form f (Goes event) = goes form f event
 happens form f (Commits consumer gives_up) = commits form f consumer gives_up

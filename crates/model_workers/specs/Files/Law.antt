@@ -1,4 +1,4 @@
--- That each entry is in a file, whatever happens.
+-- Each entry is in a file, whatever happens.
 use Rattle.std.specs.Prelude.{◌≡◌, ◌⊎◌, ℕ, List, [], ◌∷◌, ◌++◌, Bool, Option, Some}
 use Rattle.worker_journal.specs.EntryLine.{Entry, line_of}
 use Rattle.worker_journal.specs.Lines.{HasNoEnd, AreLines, StartsWith, IsRepaired}
@@ -30,7 +30,7 @@ MayLeave f name bytes = StartsWith (f.file name) bytes
 abbrev pub IsInAFile : Form → Files → Entry → Type 0
 IsInAFile form f e = (name : Name) × ((bytes : List ℕ) → MayLeave f name bytes → IsLineIn (form.line e) bytes)
 
--- the letter of the entry was added, and the reply to that came
+-- the dead letter of the entry was added, and the reply to that arrived
 abbrev pub HasLetter : Files → Entry → Type 0
 HasLetter f e = Among e f.letters
 
@@ -38,8 +38,8 @@ HasLetter f e = Among e f.letters
 abbrev pub IsDeleted : Files → Id → Type 0
 IsDeleted f id = Among id f.stream.deleted
 
--- the entry is still to come; or it is pending; or a line of some file, with its id and its fields in order; or it
--- has a letter; or it was deleted
+-- the entry is undelivered; or it is pending; or a line of some file, with its id and its fields in order; or it
+-- has a dead letter; or it was deleted
 abbrev pub IsKept : Form → Files → Entry → Type 0
 IsKept form f e = Among e f.stream.fresh
     ⊎ (IsPending f.stream e.0 ⊎ (IsInAFile form f e ⊎ (HasLetter f e ⊎ IsDeleted f e.0)))
@@ -49,32 +49,32 @@ abbrev pub EachEntryIsKept : Type 0
 EachEntryIsKept = (form : Form) (before : Name → List ℕ) (events more : List Event) (e : Entry)
     → Among e (log (after form before events)) → IsKept form (run form more (after form before events)) e
 
--- an entry of this id is in a file or has a letter; or it was deleted
+-- an entry of this id is in a file or has a dead letter; or it was deleted
 abbrev pub IsSettled : Form → Files → Id → Type 0
 IsSettled form f id =
     ((fields : Fields) × (IsInAFile form f (id, fields) ⊎ HasLetter f (id, fields))) ⊎ IsDeleted f id
 
--- so is each id that an acknowledgement named
+-- so is each acknowledged id
 abbrev pub AcknowledgedIsInAFile : Type 0
 AcknowledgedIsInAFile = (form : Form) (before : Name → List ℕ) (events : List Event) (id : Id)
     → Among id (after form before events).stream.acknowledged_ids → IsSettled form (after form before events) id
 
--- what is committed to a file stays there, and more comes only after it
+-- the bytes committed to a file remain in it, and more bytes are only appended
 abbrev pub FilesGrow : Type 0
 FilesGrow = (form : Form) (before : Name → List ℕ) (events more : List Event) (name : Name)
     → StartsWith ((after form before events).file name) ((run form more (after form before events)).file name)
 
--- a letter stays
+-- a dead letter remains
 abbrev pub LettersStay : Type 0
 LettersStay = (form : Form) (before : Name → List ℕ) (events more : List Event) (e : Entry)
     → HasLetter (after form before events) e → HasLetter (run form more (after form before events)) e
 
--- each letter is that of an entry that was added, with its own fields
+-- each dead letter is that of an entry that was added, with its own fields
 abbrev pub LettersAreOfTheLog : Type 0
 LettersAreOfTheLog = (form : Form) (before : Name → List ℕ) (events : List Event) (e : Entry)
     → HasLetter (after form before events) e → Among e (log (after form before events))
 
--- of what was not committed the crash leaves the first bytes that a commit writes, and no other bytes
+-- of what was not committed the crash leaves a prefix of what a commit writes, and no other bytes
 abbrev pub LeavesFront : Form → Files → Event → Type 0
 LeavesFront form f (Goes event) = Unit {0}
 LeavesFront form f (Commits consumer gives_up) = Unit {0}
@@ -86,7 +86,7 @@ abbrev pub AllLeaveFronts : Form → Files → List Event → Type 0
 AllLeaveFronts form f [] = Unit {0}
 AllLeaveFronts form f (e ∷ es) = LeavesFront form f e × AllLeaveFronts form (happens form f e) es
 
--- if each crash leaves only first bytes, a file is the whole lines that it had before, and lines of entries that
+-- if each crash leaves only a prefix, a file is the whole lines that it had before, and lines of entries that
 -- were added, with their own fields
 abbrev pub FilesAreOfTheLog : Type 0
 FilesAreOfTheLog = (form : Form) (before : Name → List ℕ) (events : List Event)
@@ -94,7 +94,7 @@ FilesAreOfTheLog = (form : Form) (before : Name → List ℕ) (events : List Eve
     → (es : List Entry) × ((e : Entry) → Among e es → Among e (log (after form before events)))
     × ((after form before events).file name ≡ whole_lines (before name) ++ lines form es)
 
--- then each entry that a line of a new file is of was added, with its own fields
+-- then each entry that has a line in a new file was added, with its own fields
 abbrev pub LinesAreOfTheLog : Type 0
 LinesAreOfTheLog = (form : Form) (before : Name → List ℕ) (events : List Event)
     → AllLeaveFronts form (first_files before) events → (name : Name) → before name ≡ []
@@ -106,7 +106,7 @@ abbrev pub restarted : Form → (Name → List ℕ) → List Event → Name → 
 restarted form before events name every torn ids =
     happens form (after form before events) (Reopens name every torn ids)
 
--- what a worker that is started again begins to acknowledge is of these ids, and each is that of a line of its file,
+-- a worker that is started again begins to acknowledge only some of these ids, and each is that of a line of its file,
 -- of an entry that was added, with its own fields
 abbrev pub BeginsWithItsLines : Type 0
 BeginsWithItsLines = (form : Form) (before : Name → List ℕ) (events : List Event) (name : Name) (every : ℕ)
@@ -116,7 +116,7 @@ BeginsWithItsLines = (form : Form) (before : Name → List ℕ) (events : List E
     × IsLineIn (form.line (id, fields)) ((restarted form before events name every torn ids).file name)
     × Among (id, fields) (log (after form before events)))
 
--- if each crash leaves only first bytes, and its file was new, it begins with all that it reads back: if those are ids
+-- if each crash leaves only a prefix, and its file was new, it starts with all that it reads back: if those are ids
 -- of lines of its file, then it acknowledges each, in this order
 abbrev pub BeginsWithAllItReads : Type 0
 BeginsWithAllItReads = (form : Form) (before : Name → List ℕ) (events : List Event) (name : Name) (every : ℕ)
@@ -127,7 +127,7 @@ BeginsWithAllItReads = (form : Form) (before : Name → List ℕ) (events : List
     → IsLineIn (form.line e) ((restarted form before events name every torn (ids_of es)).file name))
     → (restarted form before events name every torn (ids_of es)).stream.workers name ≡ begins_with every (ids_of es)
 
--- a file that `worker_journal` says it repaired has the whole lines of what it had
+-- a file that `worker_journal` reports as repaired has the whole lines of what it had
 abbrev pub RepairsToWholeLines : Type 0
 RepairsToWholeLines = (bytes : List ℕ) (new : Option (List ℕ)) → IsRepaired (Some bytes) new
     → new ≡ Some (whole_lines bytes)

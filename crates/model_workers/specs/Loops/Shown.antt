@@ -1,4 +1,4 @@
--- The rounds of a worker whose handler keeps something, as rounds of one that keeps what it did and committed.
+-- The rounds of a worker whose handler has a state of its own, as rounds of one that keeps what it did and committed.
 use Rattle.std.specs.Prelude.{◌≡◌, ℕ, List}
 use Rattle.redis_connection.specs.Link.{Link}
 use Rattle.model_server.specs.Group.Worker.{Id, Verdict}
@@ -6,7 +6,7 @@ use Rattle.stream_in_place.specs.Sent.{Pairs}
 use Rattle.worker.specs.Gathered.{Doings, done_too, committed_too}
 use Rattle.worker.specs.Session.{Standing}
 
--- a worker, with these doings of its handler in place of what the handler keeps
+-- a worker whose handler has these doings instead of its own state
 abbrev pub with_doings : {H : Type 0} → Standing H → Doings → Standing Doings
 with_doings w d = record { machine = w.machine; group = w.group; asked = w.asked; history = d }
 
@@ -14,7 +14,7 @@ with_doings w d = record { machine = w.machine; group = w.group; asked = w.asked
 abbrev pub Way : Type 1
 Way = Link → Standing Doings → Link → Standing Doings → List Id → Type 0
 
--- what is kept is a function of the doings: each verdict and each commit changes the two alike
+-- the state is a function of the doings: each verdict and each commit changes both alike
 pub record IsPicture {H P : Type 0} (shown : P → Doings → H) (with_verdict : H → List ℕ × Pairs → Verdict → H)
     (with_commit : H → H) : Type 0 where
   pub verdict : (p : P) (d : Doings) (e : List ℕ × Pairs) (v : Verdict)
@@ -22,13 +22,13 @@ pub record IsPicture {H P : Type 0} (shown : P → Doings → H) (with_verdict :
   pub commit : (p : P) (d : Doings) → shown p (committed_too d) ≡ with_commit (shown p d)
 
 module _ {H P : Type 0} (shown : P → Doings → H) (way : Way) (old new : Link) (w x : Standing H) where
-  -- if what is kept is the picture of these doings, this way leads to what is kept then, the picture of more doings
+  -- if the first state is the picture of these doings, this way leads to the last state, the picture of more doings
   pub record LeadsSo (p : P) (d : Doings) : Type 0 where
     pub doings : Doings
     pub told : List Id
     pub leads : way old (with_doings w d) new (with_doings x doings) told
     pub drawn : x.history ≡ shown p doings
 
-  -- so it is, whatever was kept first and was done since
+  -- so it is, whatever the first state was and whatever was done since
   abbrev pub Leads : Type 0
   Leads = (p : P) (d : Doings) → w.history ≡ shown p d → LeadsSo p d

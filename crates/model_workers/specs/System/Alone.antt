@@ -1,4 +1,4 @@
--- The count of a pending entry is of that entry alone, if the workers of a consumer ask for entries that come again one
+-- The count of a pending entry is of that entry alone, if the workers of a consumer request redelivered entries one
 -- at a time.
 use Rattle.std.specs.Prelude.{◌≡◌, ◌+◌, ◌≤◌, true, List, [], ◌∷◌, length}
 use Rattle.model_server.specs.Group.Worker.{entries_in}
@@ -15,7 +15,7 @@ use Rattle.worker.specs.Session.{Standing}
 use Rattle.worker.specs.declared.state.Settings.{Settings}
 use Rattle.model_workers.specs.System.Once.{Runs, begins, waits, turns, fails, restarts}
 
--- the server keeps to COUNT: its reply to the consumer has no more entries than that. It redelivers to others one
+-- the server respects COUNT: its reply to the consumer has no more entries than that. It redelivers to others one
 -- entry at a time
 abbrev pub KeepsToCount : Setting Fields → World Fields → Event Fields → Type 0
 KeepsToCount s w (Ask n pick next) =

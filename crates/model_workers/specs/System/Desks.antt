@@ -1,4 +1,4 @@
--- What a queue of dead letters does in the code, as moves.
+-- The operations of a queue of dead letters in the code, as moves.
 use Rattle.std.specs.Prelude.{◌≡◌, ◌≢◌, ◌⊎◌, ℕ, List, [], ◌∷◌, ◌++◌, codes}
 use Rattle.redis_wire.specs.Packed.{command_bytes}
 use Rattle.worker_journal.specs.EntryLine.{Entry}
@@ -14,7 +14,7 @@ use Rattle.model_workers.specs.System.System.{System, Desk, Move, Posts, Adds_le
 use Rattle.model_workers.specs.System.System.{Sends_ack, Settles, Restarts, new_desk, lettered_now, acknowledges_now}
 use Rattle.model_workers.specs.System.System.{moves, run}
 
--- an id and bytes are those of this entry, and of its letter
+-- an id and bytes are those of this entry, and of its dead letter
 abbrev pub IsLetter : List ℕ → Id × List ℕ → Entry → Type 0
 IsLetter dead l e = (l.0 ≡ e.0) × ((deliveries : ℕ) × (l.1 ≡ letter_for dead e deliveries))
 
@@ -25,13 +25,13 @@ AreLetters dead [] (e ∷ es) = ⊥
 AreLetters dead (l ∷ ls) [] = ⊥
 AreLetters dead (l ∷ ls) (e ∷ es) = IsLetter dead l e × AreLetters dead ls es
 
--- the queue of the contracts is this queue of the system
+-- the queue in the contracts is this queue of the system
 pub record IsDesk (dead : List ℕ) (d : letters.Desk) (t : Desk) : Type 0 where
   pub waiting : AreLetters dead d.waiting t.waiting
   pub added : d.added ≡ t.added
 
--- a queue sends this: nothing if it is empty; the XADD of the next letter; or the XACK of just what it acknowledges
--- in the system
+-- a queue sends this: nothing if it is empty; the XADD of the next dead letter; or the XACK of exactly what it
+-- acknowledges in the system
 abbrev pub AsksFor : Names → letters.Desk → Desk → LetterAsked → Type 0
 AsksFor names d t asked.Nothing = (t.waiting ≡ []) × (letter_bytes names d ≡ [])
 AsksFor names d t asked.Add = (e : Entry) × (deliveries : ℕ) × (lettered_now t ≡ e ∷ [])
@@ -39,11 +39,11 @@ AsksFor names d t asked.Add = (e : Entry) × (deliveries : ℕ) × (lettered_now
 AsksFor names d t asked.Acknowledge = (id : Id) × (acknowledges_now t ≡ id ∷ [])
     × (letter_bytes names d ≡ command_bytes (codes "XACK" ∷ names.0 ∷ names.1 ∷ acknowledges_now t))
 
--- so it is of whatever it sends
+-- this holds for whatever it sends
 abbrev pub AsksAsItDoes : Type 0
 AsksAsItDoes = (names : Names) (d : letters.Desk) (t : Desk) → IsDesk names.2 d t → AsksFor names d t (letter_asks d)
 
--- the moves of a queue that sent this and got the reply that it wanted
+-- the moves of a queue that sent this and got the expected reply
 abbrev pub moves_after : Name → ℕ → LetterAsked → List Move
 moves_after name which asked.Nothing = []
 moves_after name which asked.Add = Adds_letter name ∷ []
@@ -55,7 +55,7 @@ LettersAreMoves = (form : Form) (s : System) (name : Name) (which : ℕ) (dead :
     → IsDesk dead d (s.desks name)
     → IsDesk dead (after_letter (letter_asks d) d) ((run form (moves_after name which (letter_asks d)) s).desks name)
 
--- an entry that the queue has now and had not before was put into it
+-- an entry that the queue has now and did not have before was appended to it
 abbrev pub PostsAreMoves : Type 0
 PostsAreMoves = (form : Form) (s : System) (name : Name) (which : ℕ) (dead : List ℕ) (d : letters.Desk) (e : Entry)
     (deliveries : ℕ) → IsDesk dead d (s.desks name)
@@ -80,7 +80,7 @@ abbrev pub AreOfDesk : Name → List Move → Type 0
 AreOfDesk name [] = Unit {0}
 AreOfDesk name (m ∷ ms) = IsOfDesk name m × AreOfDesk name ms
 
--- the move is the server's, or a worker's, or of another queue; no crash of this worker
+-- the move is of the server, or of a worker, or of another queue; it is not a crash of this worker
 abbrev pub IsElsewhere : Name → Move → Type 0
 IsElsewhere name (Posts other which e) = other ≢ name
 IsElsewhere name (Adds_letter other) = other ≢ name
@@ -97,7 +97,7 @@ IsMixed name [] (m ∷ ms) = IsElsewhere name m × IsMixed name [] ms
 IsMixed name (o ∷ own) (m ∷ ms) =
     ((m ≡ o) × IsMixed name own ms) ⊎ (IsElsewhere name m × IsMixed name (o ∷ own) ms)
 
--- moves from elsewhere change nothing of what the queue's own lead to
+-- moves from elsewhere do not change what the queue's own moves lead to
 abbrev pub OthersLeaveTheDesk : Type 0
 OthersLeaveTheDesk = (form : Form) (name : Name) (own ms : List Move) (s : System) → AreOfDesk name own
     → IsMixed name own ms → (run form ms s).desks name ≡ (run form own s).desks name

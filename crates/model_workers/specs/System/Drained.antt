@@ -19,7 +19,7 @@ use Rattle.worker.specs.declared.state.Asked.{Asked}
 use Rattle.worker.specs.declared.state.Settings.{Settings}
 use Rattle.worker.specs.declared.worker.Progress.{Progress}
 
--- what the server of this world replies: to XACK that it is done, and else its first n entries
+-- the reply of the server of this world: to XACK that it is done, and otherwise its first n entries
 abbrev pub page_answer : ℕ → Name → World Fields → (to_acknowledge : List Id) → Phase → Answer Fields
 page_answer n name w (i ∷ ids) phase = acknowledged
 page_answer n name w [] (own id) = own_pending (reread (own_pick n name id w) name w.pending w.deleted w.seen)
@@ -27,12 +27,12 @@ page_answer n name w [] (claiming id) =
     taken_over (next_claim n id w.pending w.seen) (claim_answer (claim_pick n id w) w.pending w.deleted w.seen)
 page_answer n name w [] (reading rounds) = news (map whole (given w.deleted n w.fresh))
 
--- what it replies to the worker of this name, which commits before it asks
+-- its reply to the worker of this name, which commits before it sends its request
 abbrev pub page_for : ℕ → Name → World Fields → Answer Fields
 page_for n name w =
     page_answer n name w (at_request (w.workers name)).to_acknowledge (at_request (w.workers name)).phase
 
--- in its round the worker gets this page, and its handler says of each entry that it is done
+-- in its round the worker gets this page, and its handler returns `done` for each entry
 pub record HearsThePage (settings : Settings) (name : Name) (w : World Fields) (v : Standing Doings)
     (turn : Turn) : Type 0 where
   pub heard : hears settings (asking committed_too settings v).asked turn.answer
@@ -46,7 +46,7 @@ OneRoundIsOne = (settings : Settings) (old new : Link) (v x : Standing Doings) (
     → v.machine ≡ w.workers name → HearsThePage settings name w v t.turn
     → x.machine ≡ (round settings.count name w).workers name
 
--- a round of the code over a server whose world is this
+-- a round of the code over a server with this world
 pub record RoundOver (settings : Settings) (name : Name) (w : World Fields) (v x : Standing Doings) : Type 0 where
   pub old : Link
   pub new : Link
@@ -55,13 +55,13 @@ pub record RoundOver (settings : Settings) (name : Name) (w : World Fields) (v x
   pub turned : Turned done_too committed_too settings old new v x question progress
   pub page : HearsThePage settings name w v turned.turn
 
--- this many of them one after the other, while nothing else happens to the server
+-- this number of them one after the other, while nothing else happens to the server
 abbrev pub RoundsOver : ℕ → Settings → Name → World Fields → Standing Doings → Standing Doings → Type 0
 RoundsOver zero settings name w v x = x ≡ v
 RoundsOver (suc so_many) settings name w v x = (y : Standing Doings) × RoundOver settings name w v y
     × RoundsOver so_many settings name (round settings.count name w) y x
 
--- whatever happened before, the machine is that of the model after this many rounds, and enough of them drain all
+-- whatever happened before, the machine is that of the model after this number of rounds, and enough of them drain all
 abbrev pub EnoughRoundsDrain : Type 0
 EnoughRoundsDrain = (settings : Settings) (name : Name) (events : List (Event Fields)) (v x : Standing Doings)
     (so_many : ℕ) → v.machine ≡ (group.run events empty_world).workers name

@@ -1,4 +1,4 @@
--- That each entry is in a file or has a letter, whatever happens.
+-- Each entry is in a file or has a dead letter, whatever happens.
 use Rattle.std.specs.Prelude.{◌≡◌, ◌⊎◌, ℕ, List, [], ◌∷◌, ◌++◌, Option, Some, None}
 use Rattle.worker_journal.specs.EntryLine.{Entry}
 use Rattle.worker_journal.specs.Lines.{StartsWith}
@@ -25,14 +25,14 @@ abbrev pub HasClaimed : System → Name → ℕ → Entry → Type 0
 HasClaimed s name which e = (next : Id)
     × (item s.server.replies which ≡ Some (record { consumer = name; answer = taken_over next ((e.0, Some e.1) ∷ []) }))
 
--- a worker takes only a reply that is on its way to it, and so does its queue of dead letters
+-- a worker gets only a reply that is on its way to it, and so does its queue of dead letters
 abbrev pub HearsTruly : System → Move → Type 0
 HearsTruly s (Hears name settings which reply verdicts) =
     IsReplyTo s name which (heard settings (s.workers name) reply)
 HearsTruly s (Posts name which e) = HasClaimed s name which e
 HearsTruly s move = Unit {0}
 
--- so it is in each of these moves, from this system on
+-- this holds for each of these moves, from this system on
 abbrev pub AllHearTruly : Form → System → List Move → Type 0
 AllHearTruly form s [] = Unit {0}
 AllHearTruly form s (m ∷ ms) = HearsTruly s m × AllHearTruly form (moves form s m) ms
@@ -46,11 +46,11 @@ abbrev pub IsInAFile : Form → System → Entry → Type 0
 IsInAFile form s e =
     (name : Name) × ((bytes : List ℕ) → StartsWith (s.file name) bytes → IsLineIn (form.line e) bytes)
 
--- the letter of the entry was added, and the reply to that came
+-- the dead letter of the entry was added, and the reply to that arrived
 abbrev pub HasLetter : System → Entry → Type 0
 HasLetter s e = Among e s.letters
 
--- the entry is still to come; or it is pending; or it is in a file; or it has a letter; or it was deleted
+-- the entry is undelivered; or it is pending; or it is in a file; or it has a dead letter; or it was deleted
 abbrev pub IsKept : Form → System → Entry → Type 0
 IsKept form s e = Among e s.server.fresh
     ⊎ (Among e.0 (pending_ids s.server.pending) ⊎ (IsInAFile form s e ⊎ (HasLetter s e ⊎ Among e.0 s.server.deleted)))
@@ -65,22 +65,22 @@ EachEntryIsKept = (form : Form) (before : Name → List ℕ) (ms more : List Mov
     → AllHearTruly form (first_system before) ms → AllHearTruly form (after form before ms) more → (e : Entry)
     → Among e (log (after form before ms)) → IsKept form (run form more (after form before ms)) e
 
--- an entry of this id is in a file or has a letter; or it was deleted
+-- an entry of this id is in a file or has a dead letter; or it was deleted
 abbrev pub IsSettled : Form → System → Id → Type 0
 IsSettled form s id =
     ((fields : Fields) × (IsInAFile form s (id, fields) ⊎ HasLetter s (id, fields))) ⊎ Among id s.server.deleted
 
--- so is each id that an acknowledgement named
+-- so is each acknowledged id
 abbrev pub AcknowledgedIsSettled : Type 0
 AcknowledgedIsSettled = (form : Form) (before : Name → List ℕ) (ms : List Move)
     → AllHearTruly form (first_system before) ms → (id : Id)
     → Among id (after form before ms).server.acknowledged_ids → IsSettled form (after form before ms) id
 
--- a letter stays
+-- a dead letter remains
 abbrev pub LettersStay : Type 0
 LettersStay = (form : Form) (s : System) (ms : List Move) (e : Entry) → HasLetter s e → HasLetter (run form ms s) e
 
--- each letter is that of an entry that was added, with its own fields
+-- each dead letter is that of an entry that was added, with its own fields
 abbrev pub LettersAreOfTheLog : Type 0
 LettersAreOfTheLog = (form : Form) (before : Name → List ℕ) (ms : List Move)
     → AllHearTruly form (first_system before) ms → (e : Entry) → HasLetter (after form before ms) e

@@ -46,7 +46,7 @@ pub record IsConsumer (v : Standing Doings) (c : Consumer Fields) : Type 0 where
   pub lines : c.lines ≡ v.history.loose
   pub file : c.file ≡ v.history.committed
 
--- the event is the producer's, or one of the stream and of others: it is none of this consumer
+-- the event is of the producer, of the stream or of others: it is not of this consumer
 abbrev pub IsOfOthers : Event Fields → Type 0
 IsOfOthers (Send count) = Unit {0}
 IsOfOthers (Arrive executes) = Unit {0}
@@ -63,41 +63,41 @@ AreOfOthers (e ∷ es) = IsOfOthers e × AreOfOthers es
 
 -- ---- a round
 
--- what becomes of the question of a round
+-- the outcome of the request of a round
 pub data Fate : Type 0 where
-  -- it comes to the server in this round. Of pending entries the server picks these, and it says from which id the next
-  -- claim goes on
+  -- it arrives at the server in this round. The server picks these of the pending entries, and returns the id from
+  -- which the next claim continues
   comes : (pick : Id → Bool) (next : Id) → Fate
-  -- the server refuses it, or it comes later, or never. A question for entries that comes later is an event of others
+  -- the server refuses it, or it arrives later, or never. A late request for entries is an event of others
   comes_not : Fate
 
--- what others do in a round, and what becomes of its question
+-- what others do in a round, and the outcome of its request
 pub record Meantime : Type 0 where
-  pub earlier : List (Event Fields)  -- after the commit, before the question comes to the server
+  pub earlier : List (Event Fields)  -- after the commit, before the request arrives at the server
   pub fate : Fate
-  pub later : List (Event Fields)  -- after that, before the worker takes the reply
+  pub later : List (Event Fields)  -- after that, before the worker gets the reply
   pub earlier_others : AreOfOthers earlier
   pub later_others : AreOfOthers later
 
--- a worker commits before it asks, if it commits
+-- a worker commits before it sends its request, if it commits
 abbrev pub committing : Machine → List (Event Fields)
 committing m = if commits m then Sync ∷ [] else []
 
--- its question, with COUNT n: an XACK of these ids, and of entries if there are none
+-- its request, with COUNT n: an XACK of these ids, or a request for entries if there are none
 abbrev pub question_events : ℕ → Fate → (to_acknowledge : List Id) → List (Event Fields)
 question_events n (comes pick next) [] = Ask n pick next ∷ []
 question_events n (comes pick next) (i ∷ ids) = Acknowledge_now ∷ []
 question_events n comes_not [] = []
 question_events n comes_not (i ∷ ids) = Acknowledge_later ∷ []
 
--- the reply of the server to it, if the stream is this
+-- the reply of the server to it, if this is the stream
 abbrev pub reply_to : Name → ℕ → Fate → (to_acknowledge : List Id) → Phase → group.World Fields
     → Option (Answer Fields)
 reply_to name n (comes pick next) [] phase stream = Some (answer_for name n pick next phase stream)
 reply_to name n (comes pick next) (i ∷ ids) phase stream = Some acknowledged
 reply_to name n comes_not ids phase stream = None
 
--- a worker hears what was sent to it. If nothing was, it hears of the group alone; or it hears nothing that it can use
+-- a worker gets what was sent to it; or, if nothing was, it learns only about the group; or it gets nothing usable
 abbrev pub IsHeard : Option (Answer Fields) → Option Heard → Type 0
 IsHeard sent None = Unit {0}
 IsHeard sent (Some (told answer)) = sent ≡ Some answer
@@ -109,7 +109,7 @@ module _ (settings : Settings) (v : Standing Doings) (m : Meantime) where
   abbrev pub count : ℕ
   count = count_asked settings (at_request v.machine).phase
 
-  -- what happens in a round until its question comes to the server
+  -- the events of a round until its request arrives at the server
   abbrev pub until_asked : List (Event Fields)
   until_asked = committing v.machine ++ m.earlier
 
@@ -118,21 +118,21 @@ module _ (settings : Settings) (v : Standing Doings) (m : Meantime) where
   until_replied =
       until_asked ++ (question_events count m.fate (at_request v.machine).to_acknowledge ++ m.later)
 
-  -- a round that returns Ok, in which the handler says this of the entries
+  -- a round that returns `Ok`, in which the handler returns these verdicts for the entries
   abbrev pub round_events : List Verdict → List (Event Fields)
   round_events verdicts = until_replied ++ Take verdicts ∷ []
 
-  -- the reply of the server, if the world was this as the round began
+  -- the reply of the server, if this was the world at the start of the round
   abbrev pub reply_in : Setting Fields → World Fields → Option (Answer Fields)
   reply_in s w = reply_to s.name count m.fate (at_request v.machine).to_acknowledge
       (at_request v.machine).phase (run s until_asked w).stream
 
-  -- the premise: the worker takes the reply of this server to its last question. It is assumed of the server, and of a
+  -- the premise: the worker gets the reply of this server to its last request. It is assumed of the server, and of a
   -- worker that has one connection at a time
   abbrev pub HearsTheAnswer : Setting Fields → World Fields → wire.Answer → Type 0
   HearsTheAnswer s w reply = IsHeard (reply_in s w) (hears settings (asking committed_too settings v).asked reply)
 
--- after a round of the code that returns Ok, the worker is the consumer after these events
+-- after a round of the code that returns `Ok`, the worker is the consumer after these events
 abbrev pub RoundsAreEvents : Type 0
 RoundsAreEvents = (s : Setting Fields) (w : World Fields) (settings : Settings) (old new : Link)
     (v x : Standing Doings) (asked : Asked) (p : Progress) (m : Meantime)
@@ -142,7 +142,7 @@ RoundsAreEvents = (s : Setting Fields) (w : World Fields) (settings : Settings) 
 
 -- ---- a round that fails
 
--- if the worker asked nothing, it may have committed
+-- if the worker sent no request, it may have committed
 abbrev pub unasked_events : Machine → RequestError → List (Event Fields)
 unasked_events m NotCommitted = []
 unasked_events m TooLong = committing m
@@ -155,13 +155,13 @@ cut_by (inl none) = []
 cut_by (inr some) = Take some.took.verdicts ∷ []
 
 module _ (settings : Settings) (asked : Asked) (a : wire.Answer) (m n : Machine) (r s : Doings) where
-  -- what was handled of a reply that did not bring the worker on
+  -- the handling of a reply after which the worker failed
   abbrev pub handled_of : (e : WorkerError) → Failed done_too settings asked a m n r s e → List (Event Fields)
   handled_of faults.Memory f = cut_by f.2
   handled_of e f = []
 
 module _ (settings : Settings) (old new : Link) (v x : Standing Doings) (m : Meantime) where
-  -- a round that fails: the worker asked nothing; or it takes nothing of the reply, or a part, and begins again
+  -- a round that fails: the worker sent no request; or it uses nothing of the reply, or a part, and starts over
   abbrev pub failure_events : (e : RunError) → Fails done_too committed_too settings old new v x e → List (Event Fields)
   failure_events (causes.Request e) f = unasked_events v.machine e
   failure_events (causes.Send e) f = until_replied settings v m ++ Reconnect ∷ []
@@ -171,7 +171,7 @@ module _ (settings : Settings) (old new : Link) (v x : Standing Doings) (m : Mea
       until_replied settings v m
       ++ (handled_of settings u.asked f.1.0 u.machine f.0.machine u.history f.0.history e.error f.1.2 ++ Reconnect ∷ [])
 
-  -- the same premise of the reply, if one came
+  -- the same premise for the reply, if one arrived
   abbrev pub FailsHearing : Setting Fields → World Fields → (e : RunError)
       → Fails done_too committed_too settings old new v x e → Type 0
   FailsHearing s w (causes.Request e) f = Unit {0}
@@ -189,34 +189,34 @@ FailuresAreEvents = (s : Setting Fields) (w : World Fields) (settings : Settings
 
 -- ---- a crash and a start
 
--- when a crash comes. No contract speaks of a call that does not return, so these moments are a premise
+-- the moment of a crash. No contract describes a call that does not return, so these moments are a premise
 pub data Moment : Type 0 where
   -- between two rounds, or before the end of a commit
   between : Moment
-  -- in a round, after its commit, and before it gave out the reply
+  -- in a round, after its commit, and before it returned the reply
   within : (m : Meantime) → Moment
 
--- what happened in that round
+-- the events in that round
 abbrev pub events_until : Settings → Standing Doings → Moment → List (Event Fields)
 events_until settings v between = []
 events_until settings v (within m) = until_replied settings v m
 
--- what the worker and its handler are then
+-- the state of the worker and its handler then
 abbrev pub standing_at : Settings → Standing Doings → Moment → Standing Doings
 standing_at settings v between = v
 standing_at settings v (within m) = asking committed_too settings v
 
--- the entries whose lines a crash leaves in the file: all that were committed. Of the others the first `kept` are there too,
--- if the crash cut a commit off
+-- the entries whose lines a crash leaves in the file: all committed ones. Of the others the first `kept` are there too,
+-- if the crash interrupted a commit
 abbrev pub file_left : Standing Doings → (kept : ℕ) → List (Entry Fields)
 file_left v kept = v.history.committed ++ take kept v.history.loose
 
--- how many of them the last commit added, in this world
+-- the number of them that the last commit added, in this world
 abbrev pub added_last : World Fields → Standing Doings → (kept : ℕ) → ℕ
 added_last w v kept = last_added w.consumer.last_commit (take kept v.history.loose)
 
 -- a worker is started, and begins to acknowledge the ids of the last `number` lines of its file. These are at least the
--- lines of the last commit. Its handler says that the entries of the file are committed
+-- lines of the last commit. Its handler has the entries of the file as committed
 pub record StartsOver (settings : Settings) (w : World Fields) (v x : Standing Doings) : Type 0 where
   pub kept : ℕ
   pub number : ℕ
@@ -248,8 +248,8 @@ StartsAreEvents = (s : Setting Fields) (w : World Fields) (settings with_setting
 
 -- ---- a schedule
 
--- a worker with these settings may be so after these events of the model. At first it is started over an empty file. Then
--- others do something, or it makes a round, or a round of it fails, or a crash comes and it is started again
+-- a worker with these settings may have this state after these events of the model. First it is started over an empty
+-- file. Then others do something, or it makes a round, or a round fails, or it crashes and is started again
 pub data Runs (s : Setting Fields) : Settings → List (Event Fields) → Standing Doings → Type 0 where
   begins : (settings : Settings) (worker : Worker) → IsStarted settings [] worker
       → Runs s settings (Restart settings.every 0 0 ∷ []) (standing_of worker (done_before []))
@@ -268,7 +268,7 @@ pub data Runs (s : Setting Fields) : Settings → List (Event Fields) → Standi
       (moment : Moment) (t : StartsAt s settings with_settings (after s events) v x moment) → Runs s settings events v
       → Runs s with_settings (events ++ restart_events s settings with_settings (after s events) v x moment t) x
 
--- a round that returns Ok is such a round. `Worker::round` makes one, and `Worker::round_pipelined` one or two
+-- a round that returns `Ok` is such a round. `Worker::round` makes one, and `Worker::round_pipelined` one or two
 abbrev pub RoundsRun : Type 0
 RoundsRun = (s : Setting Fields) (settings : Settings) (events : List (Event Fields)) (old new : Link)
     (v x : Standing Doings) (asked : Asked) (p : Progress) (m : Meantime)
@@ -277,7 +277,7 @@ RoundsRun = (s : Setting Fields) (settings : Settings) (events : List (Event Fie
     → Runs s settings events v → Runs s settings (events ++ round_events settings v m t.turn.verdicts) x
 
 module _ (s : Setting Fields) (settings : Settings) where
-  -- in each of these turns the worker takes the reply of this server
+  -- in each of these turns the worker gets the reply of this server
   abbrev pub HearsEach : List (Event Fields) → Standing Doings → List Turn → List Meantime → Type 0
   HearsEach events v [] ms = Unit {0}
   HearsEach events v (t ∷ ts) [] = ⊥
@@ -311,18 +311,18 @@ StartsReadEnough = (s : Setting Fields) (settings : Settings) (events : List (Ev
     → AllWithin number s first_world (events ++ events_until settings v moment) → (kept : ℕ)
     → added_last (run s (events_until settings v moment) (after s events)) (standing_at settings v moment) kept ≤ number
 
--- so no id is twice among the entries of its file, whoever adds to the stream
+-- so no id occurs twice among the entries of its file, whoever adds to the stream
 abbrev pub CodeWritesOnce : Type 0
 CodeWritesOnce = (s : Setting Fields) (settings : Settings) (events : List (Event Fields)) (v : Standing Doings)
     → Runs s settings events v → Once (ids_of v.history.committed)
 
--- and each of them is of the log, with its own fields
+-- and each of them is in the log, with its own fields
 abbrev pub CodeWritesTheLog : Type 0
 CodeWritesTheLog = (s : Setting Fields) (settings : Settings) (events : List (Event Fields)) (v : Standing Doings)
     → Runs s settings events v → (e : Entry Fields)
     → Among e v.history.committed → Among e (log (after s events))
 
--- each entry that was added is still to come, or pending, or in the file, or was deleted, if nobody else acknowledges
+-- each entry that was added is undelivered, or pending, or in the file, or was deleted, if nobody else acknowledges
 abbrev pub CodeKeepsEach : Type 0
 CodeKeepsEach = (s : Setting Fields) (settings : Settings) (events : List (Event Fields)) (v : Standing Doings)
     → Runs s settings events v → NoOtherAcks events → (e : Entry Fields)
@@ -331,7 +331,7 @@ CodeKeepsEach = (s : Setting Fields) (settings : Settings) (events : List (Event
     ⊎ (Among e.0 (pending_ids (after s events).stream.pending)
     ⊎ (Among e v.history.committed ⊎ Among e.0 (after s events).stream.deleted))
 
--- the file is the first of the log, if the worker reads all in order
+-- the file is a prefix of the log, if the worker reads all in order
 abbrev pub CodeWritesInOrder : Type 0
 CodeWritesInOrder = (s : Setting Fields) (settings : Settings) (events : List (Event Fields)) (v : Standing Doings)
     → Runs s settings events v → AllInOrder s first_world events

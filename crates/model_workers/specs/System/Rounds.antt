@@ -20,7 +20,7 @@ use Rattle.worker.specs.declared.worker.Worker.{Worker}
 use Rattle.model_workers.specs.System.System.{System, Move, Serves, Commits, Sends, Hears, Breaks, Posts, Adds_letter}
 use Rattle.model_workers.specs.System.System.{Sends_ack, Settles, Restarts, repaired, filed_then, moves, run}
 
--- the move is the server's, or another worker's, or that of a queue of dead letters
+-- the move is of the server, or of another worker, or of a queue of dead letters
 abbrev pub IsOther : Name → Move → Type 0
 IsOther name (Serves event) = Unit {0}
 IsOther name (Commits other) = other ≢ name
@@ -43,7 +43,7 @@ abbrev pub OthersChangeNothing : Type 0
 OthersChangeNothing = (form : Form) (s : System) (name : Name) (m : Move) → IsOther name m
     → (moves form s m).workers name ≡ s.workers name
 
--- a round: it commits and sends its command, and after moves of others it hears the reply of this number
+-- a round: it commits and sends its command, and after moves of others it gets the reply of this number
 abbrev pub round_of : Name → Settings → List Move → ℕ → Turn → List Move
 round_of name settings others which turn = Commits name ∷ Sends name settings
     ∷ (others ++ Hears name settings which turn.answer turn.verdicts ∷ [])
@@ -81,19 +81,19 @@ FailuresAreMoves = (form : Form) (s : System) (name : Name) (settings : Settings
     → Fails done_too committed_too settings old new (s.workers name) x e → (which : ℕ)
     → (ms : List Move) × AreOf name settings ms × ((run form ms s).workers name ≡ x)
 
--- what a call promises of a worker that it gives out: it begins to acknowledge these ids. `Worker::new` promises that of
+-- the contract of a call that returns a new worker: it begins to acknowledge these ids. For `Worker::new` there are
 -- none
 pub record IsStarted (settings : Settings) (ids : List Id) (w : Worker) : Type 0 where
   pub machine : machine_of w ≡ begins_with settings.every ids
   pub group : w.group ≡ Unknown
   pub asked : w.asked ≡ Nothing
 
--- the entries are committed after a crash that left these bytes, and lines of the worker's file then
+-- the entries are committed after a crash that left these bytes, and they are lines of the worker's file then
 abbrev pub AreReadBack : Form → System → Name → List ℕ → List Entry → Type 0
 AreReadBack form s name torn es = (e : Entry) → Among e es
     → Among e (filed_then form s name torn) × IsLineIn (form.line e) (repaired s name torn)
 
--- a crash, and a worker that is started so with the ids of such entries, whose handler did nothing since, are a move
+-- a crash, and the start of a worker with the ids of such entries, whose handler did nothing since, are a move
 abbrev pub StartsAreMoves : Type 0
 StartsAreMoves = (form : Form) (s : System) (name : Name) (settings : Settings) (torn : List ℕ)
     (es before : List Entry) (w : Worker) → AreReadBack form s name torn es → IsStarted settings (ids_of es) w

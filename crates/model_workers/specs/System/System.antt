@@ -1,5 +1,5 @@
--- A server, workers that do what their contracts say, their files, and the letters of what was given up; and what may
--- happen.
+-- A server, workers that fulfil their contracts, their files, and the dead letters of given-up entries; and the
+-- possible moves.
 use Rattle.std.specs.Prelude.{ℕ, Bool, false, not, List, [], ◌∷◌, ◌++◌, drop, filter, Option, Some, None, if◌then◌else◌}
 use Rattle.redis_wire.specs.Reply as wire
 use Rattle.worker_journal.specs.EntryLine.{Entry}
@@ -57,7 +57,7 @@ world_with s = record (empty_world {F = Fields}) {
   acks = s.acks;
 }
 
--- what the server does; what a worker does is no event of the server
+-- what the server does; what a worker does is not an event of the server
 abbrev pub serves : Server → group.Event Fields → Server
 serves s (Comes which verdicts) = s
 serves s (Commit consumer) = s
@@ -66,26 +66,26 @@ serves s (Go_back consumer) = s
 serves s (Crash consumer every keeps ids) = s
 serves s event = server_of (group.happens (world_with s) event)
 
--- a worker's queue of dead letters: the entries that it claimed and gives up, in order. Each waits for its letter,
+-- a worker's queue of dead letters: the entries that it claimed and gives up, in order. Each waits for its dead letter,
 -- and then for its acknowledgement
 pub record Desk : Type 0 where
   pub waiting : List Entry
-  pub added : Bool  -- the letter of the first one was added, and the reply to that came
+  pub added : Bool  -- the dead letter of the first one was added, and the reply to that arrived
 
--- nothing waits
+-- the queue is empty
 abbrev pub new_desk : Desk
 new_desk = record { waiting = []; added = false }
 
 pub record System : Type 0 where
   pub server : Server
   pub workers : Name → Standing Doings
-  pub file : Name → List ℕ  -- of each worker's file the bytes that no crash takes back
-  pub filed : List Entry  -- what workers did and committed, which no crash undoes
+  pub file : Name → List ℕ  -- the bytes of each worker's file that no crash removes
+  pub filed : List Entry  -- what workers did and committed: a crash does not undo it
   pub desks : Name → Desk
-  pub letters : List Entry  -- the entries whose letter was added, and the reply to that came
+  pub letters : List Entry  -- the entries whose dead letter was added, and the reply to that arrived
 
--- a worker that did nothing, and knows no more than ids that it is to acknowledge. Its handler says that these entries
--- were committed before
+-- a new worker with ids that it has to acknowledge. Its handler has these entries as committed
+-- before
 abbrev pub new_worker : ℕ → List Id → List Entry → Standing Doings
 new_worker every ids before = record {
   machine = begins_with every ids;
@@ -94,7 +94,7 @@ new_worker every ids before = record {
   history = record { loose = []; committed = before };
 }
 
--- nothing was added, and each worker opened its file, which had these bytes before
+-- no entry was added, and each worker opened its file, which had these bytes before
 abbrev pub first_system : (Name → List ℕ) → System
 first_system before = record {
   server = server_of empty_world;
@@ -105,31 +105,31 @@ first_system before = record {
   letters = [];
 }
 
--- what may happen next
+-- the possible moves
 pub data Move : Type 0 where
-  -- the server does something of itself, or since a worker asked it to
+  -- an event of the server, by itself or because of a request of a worker
   Serves : (event : group.Event Fields) → Move
   -- a worker commits, if there is something to commit and nothing to acknowledge
   Commits : (name : Name) → Move
-  -- a worker sends its next command; an XACK of what is committed may come to the server from then on
+  -- a worker sends its next command; an XACK of what is committed may arrive at the server from then on
   Sends : (name : Name) (settings : Settings) → Move
-  -- a reply to its command comes to a worker, whose handler says this of the entries
+  -- a reply to its command arrives at a worker, whose handler returns these verdicts for the entries
   Hears : (name : Name) (settings : Settings) (which : ℕ) (reply : wire.Answer) (verdicts : List Verdict) → Move
-  -- a round of a worker fails: it begins again with what is pending for it, and knows this of the group
+  -- a round of a worker fails: it starts over with its own pending entries, and with this state of the group
   Breaks : (name : Name) (state : GroupState) (question : Asked) → Move
-  -- the reply to its XCLAIM of one id comes to a worker and has this entry, which is put at the end of its queue. To
+  -- the reply to its XCLAIM of one id arrives at a worker and has this entry, which is appended to its queue. For
   -- the server the XCLAIM is a `Claim` that picks the id
   Posts : (name : Name) (which : ℕ) (e : Entry) → Move
-  -- the reply to the XADD of the first entry's letter comes to the queue of a worker
+  -- the reply to the XADD of the first entry's dead letter arrives at the queue of a worker
   Adds_letter : (name : Name) → Move
-  -- the queue of a worker sends the XACK of its first entry, if the letter of that one was added
+  -- the queue of a worker sends the XACK of its first entry, if the dead letter of that entry was added
   Sends_ack : (name : Name) → Move
-  -- the reply to that XACK comes, and the queue of the worker forgets the entry
+  -- the reply to that XACK arrives, and the queue of the worker removes the entry
   Settles : (name : Name) (which : ℕ) → Move
   -- a worker crashes, or is killed, and is started again. Its file has what was committed and any bytes after it, and
-  -- is cut after its last line feed. What its handler did and is a line of the file is committed. It reads lines of
-  -- its file back, and begins to acknowledge those of these ids that they name. Its handler may say of any entries
-  -- that they were committed before. Its queue is empty
+  -- is cut after its last line feed. Each entry that its handler did and that is a line of the file is committed.
+  -- It reads lines of its file back, and begins to acknowledge those of these ids that are in them. Its handler may
+  -- have any entries as committed before. Its queue is empty
   Restarts : (name : Name) (settings : Settings) (torn : List ℕ) (ids : List Id) (before : List Entry) → Move
 
 -- a worker after its commit
@@ -139,7 +139,7 @@ committed w = record w {
   history = history_at_request committed_too w.machine w.history;
 }
 
--- what it commits
+-- the entries that it commits
 abbrev pub files_now : Standing Doings → List Entry
 files_now w = if commits w.machine then w.history.loose else []
 
@@ -147,7 +147,7 @@ files_now w = if commits w.machine then w.history.loose else []
 abbrev pub waiting : Settings → Standing Doings → Standing Doings
 waiting settings w = record w { asked = asks w.group w.machine.phase w.machine.to_acknowledge }
 
--- what it takes from a reply
+-- the contents that it takes from a reply
 abbrev pub heard : Settings → Standing Doings → wire.Answer → Option Heard
 heard settings w reply = hears settings w.asked reply
 
@@ -156,7 +156,7 @@ abbrev pub having : Settings → Standing Doings → wire.Answer → List Verdic
 having settings w reply verdicts =
     having_heard done_too w (group_after settings w.group w.asked reply) (heard settings w reply) verdicts
 
--- the replies that are still on their way after the one of that number came with this
+-- the replies that are still on their way after the one of that number arrived with this
 abbrev pub still_coming : List (Reply Fields) → ℕ → Option Heard → List (Reply Fields)
 still_coming replies which None = replies
 still_coming replies which (Some (told answer)) = but replies which
@@ -167,28 +167,28 @@ still_coming replies which (Some group_made) = replies
 abbrev pub repaired : System → Name → List ℕ → List ℕ
 repaired s name torn = whole_lines (s.file name ++ torn)
 
--- what is committed then
+-- the committed entries then
 abbrev pub filed_then : Form → System → Name → List ℕ → List Entry
 filed_then form s name torn = s.filed ++ filter (is_in form (repaired s name torn)) (s.workers name).history.loose
 
--- of that, what is a line of the file
+-- those of them that are lines of the file
 abbrev pub read_back : Form → System → Name → List ℕ → List Entry
 read_back form s name torn = filter (is_in form (repaired s name torn)) (filed_then form s name torn)
 
--- the first one
+-- the first entry only
 abbrev pub first : List Entry → List Entry
 first [] = []
 first (e ∷ es) = e ∷ []
 
--- the entry whose letter is added: the first one of the queue, unless it was added before
+-- the entry whose dead letter is added: the first one of the queue, unless it was added before
 abbrev pub lettered_now : Desk → List Entry
 lettered_now d = if d.added then [] else first d.waiting
 
--- the queue then
+-- the queue after that
 abbrev pub with_letter : Desk → Desk
 with_letter d = record d { added = not (is_empty d.waiting) }
 
--- what a queue acknowledges: the first one, if its letter was added
+-- the id that a queue acknowledges: the first one, if its dead letter was added
 abbrev pub acknowledges_now : Desk → List Id
 acknowledges_now d = if d.added then ids_of (first d.waiting) else []
 
@@ -204,7 +204,7 @@ with_desk s name d = record s { desks = with_one s.desks name d }
 abbrev pub with_worker : System → Name → Standing Doings → System
 with_worker s name w = record s { workers = with_one s.workers name w }
 
--- what a move makes of the system
+-- the system after a move
 abbrev pub moves : Form → System → Move → System
 moves form s (Serves event) = record s { server = serves s.server event }
 moves form s (Commits name) = record (with_worker s name (committed (s.workers name))) {

@@ -1,35 +1,35 @@
-//! What holds of a worker that checks its file for each entry, over each schedule with failovers.
+//! What holds for a worker that checks its file for each entry, over each schedule with failovers.
 ghost use Rattle.model_workers.specs.Failover.Keeps.{EntriesLookUp};
 ghost use Rattle.model_workers.specs.Failover.Schedule.{CodeLosesNothing, CodeLosesNothingAdded, CodeWritesEachRecord};
 ghost use Rattle.model_workers.specs.Failover.Schedule.{CodeWritesOnce, CodeWritesTheLog};
 ghost use Rattle.model_workers.specs.Failover.Schedule.{RunsAreEvents, RunsWait};
 
-/// A handler that keeps entries, and adds none whose id it has, does with a reply and with a commit what the
+/// A handler that keeps entries, and adds none whose id it has, handles a reply and a commit exactly as the
 /// consumer of `model_server::failover` does.
 pub fn entries_are_looked_up()
     ensures { EntriesLookUp }
 {}
 
 /// A worker whose handler checks its file (`LooksUp`) is the consumer of `model_server::failover`, in which the server
-/// may go back to an earlier state. It is so after each schedule (`Runs`) of rounds, of rounds that fail or are
-/// not confirmed, of breaks, of crashes with the start after them, and of failovers. If its rounds are those of
-/// `round_confirmed`, a WAIT comes with each of its questions for entries.
+/// may return to an earlier state. This holds after each schedule (`Runs`) of rounds, of rounds that fail or are
+/// not confirmed, of broken connections, of crashes with the start after them, and of failovers. If its rounds are
+/// those of `round_confirmed`, a WAIT follows each of its requests for entries.
 ///
-/// There are four premises. The worker takes the reply that the model's server sent. The reply to WAIT is the
-/// one that this server sent. A start reads back the lines of its last commit, or more. After a failover the
+/// There are four premises. The worker gets the reply that the model's server sent. The reply to WAIT is the
+/// one that this server sent. A start reads back at least the lines of its last commit. After a failover the
 /// master is a replica that confirmed: that is the model's own premise.
 pub fn rounds_are_those_of_failover<R>()
     ensures runs { RunsAreEvents R }
     ensures waits { RunsWait R }
 {}
 
-/// After each schedule no id is twice in the worker's file, with WAIT or without.
+/// After each schedule no id is twice in the worker's file, with or without WAIT.
 ///
-/// If the worker and the producer ask WAIT, each entry of the file is in the log, with its own fields,
-/// after any failover, and comes to nobody as new. Each record that the producer took to be in the stream
-/// is to come, or pending, or in the file, or was deleted. If the producer said once that all is in, the
+/// If the worker and the producer send WAIT, each entry of the file is in the log, with its own fields,
+/// after any failover, and nobody gets it as a new entry. Each record that the producer knew to be in the stream
+/// is undelivered, or pending, or in the file, or was deleted. If the producer once reported that all are in, the
 /// file of a drained stream has each record once. For these two nobody else adds or acknowledges
-/// (`NobodyElse`), and the ids fit (`Fit`). If nobody deletes, the worker need not ask WAIT for the first
+/// (`NobodyElse`), and the ids fit (`Fit`). If nobody deletes, the worker need not send WAIT for the first
 /// of them.
 pub fn the_code_writes_each_entry_once<R>()
     ensures once { CodeWritesOnce R }

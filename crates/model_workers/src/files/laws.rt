@@ -8,27 +8,27 @@ ghost use Rattle.model_workers.specs.Files.Law.{RepairsToWholeLines, TextIsAForm
 
 use worker_journal::LogFile;
 
-/// After any list of events each entry that was ever added is still to come, or pending, or is a
-/// line of some worker's file, or has a letter, or was deleted. A line of a file is in whatever a
-/// crash leaves of it, with the id of the entry and its fields in order.
+/// After any list of events each entry that was ever added is undelivered, or pending, or is a
+/// line of some worker's file, or has a dead letter, or was deleted. No crash removes a line of a
+/// file, and the line has the id of the entry and its fields in order.
 pub fn each_entry_is_kept()
     ensures { EachEntryIsKept }
 {}
 
 /// An entry that is acknowledged is a line of some worker's file, whatever a crash leaves of it; or
-/// it has a letter, or was deleted.
+/// it has a dead letter, or was deleted.
 pub fn what_is_acknowledged_is_in_a_file()
     ensures { AcknowledgedIsInAFile }
 {}
 
-/// What is committed to a file stays there, and a letter stays.
+/// The bytes committed to a file remain in it, and a dead letter remains.
 pub fn nothing_is_taken_back()
     ensures files { FilesGrow }
     ensures letters { LettersStay }
 {}
 
-/// Each letter is that of an entry of the log. If each crash leaves only first bytes of what a
-/// commit writes, a file has only lines of such entries after what it had before.
+/// Each dead letter is that of an entry of the log. If each crash leaves only a prefix of what a
+/// commit writes, a file has only lines of such entries after its earlier content.
 pub fn nothing_is_made_up()
     ensures letters { LettersAreOfTheLog }
     ensures files { FilesAreOfTheLog }
@@ -36,21 +36,21 @@ pub fn nothing_is_made_up()
 {}
 
 /// A worker that is started again begins to acknowledge only ids of lines of its own file, of entries
-/// that were added. If each crash leaves only first bytes, and its file was new, it begins with all
-/// ids that it reads back, in their order.
+/// that were added. If each crash leaves only a prefix, and its file was new, it starts with all
+/// ids that it reads back, in order.
 pub fn a_started_worker_acknowledges_its_lines()
     ensures only { BeginsWithItsLines }
     ensures all { BeginsWithAllItReads }
 {}
 
-/// The model's file is one of `worker_journal`: it is repaired to the same lines, and its lines of text
+/// The model's file is one of `worker_journal`: its repair leaves the same lines, and its lines of text
 /// are a form.
 pub fn files_are_those_of_line_log()
     ensures repaired { RepairsToWholeLines }
     ensures text { TextIsAForm }
 {}
 
-/// All that a crash may leave of a log that holds a worker's file is what `MayLeave` says. So it has
+/// Everything that a crash may leave of a log with a worker's file is allowed by `MayLeave`. So it has
 /// the line of each entry that is in this file.
 pub fn a_log_leaves_what_the_model_says<D: LogFile>()
     ensures { HeldLeavesSo D.seen D.may_leave D.is_sound }

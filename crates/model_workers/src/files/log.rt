@@ -1,11 +1,11 @@
-//! The calls of `worker_journal` on a worker's file, in the words of the model.
+//! The calls of `worker_journal` on a worker's file, in the terms of the model.
 ghost use Rattle.std.specs.Prelude.{IfOk, OnErr, OnOk};
 ghost use Rattle.model_workers.specs.Files.Bound.{CommitsSo, KeepsSo, LeavesSo, OpensSo};
 
 use std::alloc::Global;
 use worker_journal::{LineLog, LogError, LogFile};
 
-/// Opens a worker's file. Whatever bytes a crash left after the committed ones, the log holds the
+/// Opens a worker's file. Whatever bytes a crash left after the committed ones, the log has the
 /// file that the worker has after `Reopens`.
 pub fn open<D: LogFile + Drop>(alloc: Global, file: D) -> Result<LineLog<D>, LogError>
     ensures { IfOk result (λ log. D.is_sound file
@@ -14,9 +14,9 @@ pub fn open<D: LogFile + Drop>(alloc: Global, file: D) -> Result<LineLog<D>, Log
     LineLog::open(alloc, file)
 }
 
-/// Commits the lines that were gathered. After an Ok the log holds the file that the worker has
-/// after `Commits`; after an `Err` it holds the file that it held. A crash at any moment of the call
-/// leaves what `MayLeave` says.
+/// Commits the gathered lines. After `Ok` the log has the file that the worker has
+/// after `Commits`; after `Err` it has the same file as before. A crash at any moment of the call
+/// leaves what `MayLeave` allows.
 pub fn commit<D: LogFile + Drop>(log: &mut LineLog<D>) -> Result<(), LogError>
     ensures committed { OnOk result (CommitsSo D.seen D.may_leave D.is_sound log.old.batch.items
         log.old.file log.old.len log.old.is_broken log.new.file log.new.len log.new.is_broken) }

@@ -10,25 +10,25 @@ ghost use Rattle.model_workers.specs.System.Once.{RoundsAreEvents, RoundsRun, Ru
 ghost use Rattle.model_workers.specs.System.Once.{StartsAreEvents, StartsReadEnough};
 ghost use Rattle.model_workers.specs.System.Rounds.{FailuresAreMoves, OthersChangeNothing, RoundsAreMoves, StartsAreMoves};
 
-/// After any moves each entry that was ever added is still to come, or pending, or is a line of some worker's
-/// file, whatever a crash leaves of it; or its letter was added and the reply came; or it was deleted. So is
-/// each entry that is acknowledged a line of some file, or it has such a letter, or it was deleted. The premise
-/// is that a worker, and its queue of dead letters, take only replies that are on their way to it
+/// After any moves each entry that was ever added is undelivered, or pending, or is a line of some worker's
+/// file, whatever a crash leaves of it; or its dead letter was added and the reply arrived; or it was deleted. Each
+/// entry that is acknowledged is a line of some file, or it has such a letter, or it was deleted. The premise
+/// is that a worker, and its queue of dead letters, get only replies that are on their way to it
 /// (`AllHearTruly`).
 pub fn each_entry_is_kept()
     ensures kept { EachEntryIsKept }
     ensures acknowledged { AcknowledgedIsSettled }
 {}
 
-/// A letter stays, whatever moves follow. Each letter is that of an entry that was added, with its own
+/// A dead letter remains, whatever moves follow. Each dead letter is that of an entry that was added, with its own
 /// fields in order.
 pub fn letters_stay()
     ensures stay { LettersStay }
     ensures of_the_log { LettersAreOfTheLog }
 {}
 
-/// What `Worker::round` promises is a list of moves of the worker: after a round that returns Ok, and
-/// after one that fails, these moves lead to it. Moves of the server and of other workers
+/// The contract of `Worker::round` describes a list of moves of the worker: after a round that returns `Ok`, and
+/// after one that fails, these moves lead to its state. Moves of the server and of other workers
 /// do not change it.
 pub fn rounds_are_moves()
     ensures others { OthersChangeNothing }
@@ -36,8 +36,8 @@ pub fn rounds_are_moves()
     ensures failures { FailuresAreMoves }
 {}
 
-/// The contracts of `DeadLetters` are moves of a worker's queue of dead letters. An entry that is given up is
-/// put into it. For its first entry the queue sends the XADD of the letter, and after the reply the XACK of
+/// The contracts of `DeadLetters` describe moves of a worker's queue of dead letters. An entry that is given up is
+/// appended to it. For its first entry the queue sends the XADD of the dead letter, and after the reply the XACK of
 /// that entry. After each reply the queue is in the state that its moves lead to, whatever others do meanwhile.
 pub fn desks_are_moves()
     ensures posts { PostsAreMoves }
@@ -47,29 +47,29 @@ pub fn desks_are_moves()
     ensures others { OthersLeaveTheDesk }
 {}
 
-/// What `Worker::resumed` and `Worker::new` promise is a move of the worker, after a crash that left any bytes
-/// after what its file had. The premise is that it is given ids of entries that are committed, and lines of
+/// The contracts of `Worker::resumed` and `Worker::new` describe a move of the worker, after a crash that left any
+/// bytes after what its file had. The premise is that it gets ids of entries that are committed, and that are lines of
 /// that file.
 pub fn starts_are_moves()
     ensures { StartsAreMoves }
 {}
 
-/// A worker's round that returns Ok is a round of `model_server::rounds`, if the server delivers its page and the
-/// handler says `done` of each entry. Enough of such rounds, with nothing between them, lead to a world where
-/// nothing is pending and nothing is still to come.
+/// A worker's round that returns `Ok` is a round of `model_server::rounds`, if the server delivers its page and the
+/// handler returns `done` for each entry. Enough of such rounds, with nothing between them, lead to a world where
+/// no entry is pending or undelivered.
 pub fn rounds_that_hear_the_page_are_rounds()
     ensures round { OneRoundIsOne }
     ensures drains { EnoughRoundsDrain }
 {}
 
-/// What `Worker::round`, `Worker::new` and `Worker::resumed` promise are events of the consumer of
-/// `model_server::once`: a round that returns Ok, one that fails, and a crash with the start after it. So
+/// The contracts of `Worker::round`, `Worker::new` and `Worker::resumed` describe events of the consumer of
+/// `model_server::once`: a round that returns `Ok`, one that fails, and a crash with the start after it. So
 /// after each schedule of them (`Runs`) the worker and its file are that consumer. The rounds of
 /// `Worker::run` are such rounds too.
 ///
-/// The premise of a round is that the worker takes the reply of the model's server to its question
-/// (`HearsTheAnswer`). The premise of a start is that it reads back the lines of the last commit. It
-/// does if no reply had more entries than it reads lines.
+/// The premise of a round is that the worker gets the reply of the model's server to its request
+/// (`HearsTheAnswer`). The premise of a start is that it reads back the lines of the last commit. This
+/// holds if no reply had more entries than it reads lines.
 pub fn rounds_are_those_of_once()
     ensures rounds { RoundsAreEvents }
     ensures failures { FailuresAreEvents }
@@ -80,10 +80,10 @@ pub fn rounds_are_those_of_once()
     ensures enough { StartsReadEnough }
 {}
 
-/// After each schedule of the code no id is twice in the worker's file, and each entry of the file is of
-/// the log, with its own fields. Each entry of the log is still to come, or pending, or in the file, or
+/// After each schedule of the code no id is twice in the worker's file, and each entry of the file is in
+/// the log, with its own fields. Each entry of the log is undelivered, or pending, or in the file, or
 /// was deleted, if nobody else acknowledges. If the worker reads all in order (`AllInOrder`), the file
-/// is the first of the log. It is the records once all are in and the stream is drained.
+/// is a prefix of the log. It is the records once all are in and the stream is drained.
 pub fn the_code_writes_each_entry_once()
     ensures once { CodeWritesOnce }
     ensures of_log { CodeWritesTheLog }
@@ -96,7 +96,7 @@ pub fn the_code_writes_each_entry_once()
 /// delivered `n` times was delivered by itself at least `n - 1` times. So no entry is given up because another
 /// one of its batch ends the process.
 ///
-/// The premise is that the server keeps to COUNT, and redelivers to others one entry at a time
+/// The premise is that the server respects COUNT, and redelivers to others one entry at a time
 /// (`AllKeepToCount`).
 pub fn the_code_counts_each_entry_alone()
     ensures { CodeIsCountedAlone }
