@@ -1,4 +1,4 @@
--- Proofs on a worker that looks up and asks WAIT.
+-- Proofs on a worker that checks its file and sends WAIT.
 pub mod KeepsLemmas
 pub mod Sample
 pub mod Wrong

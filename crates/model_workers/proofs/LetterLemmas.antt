@@ -1,4 +1,4 @@
--- What is given up over a connection is moves of a desk.
+-- Giving up entries over a connection is a list of moves of a queue of dead letters.
 use Rattle.std.proofs.Common.{◌≡◌, inl, inr, refl, sym, ap, subst, ◌∙◌, ℕ, zero, suc, Bool, true, false, List, [], ◌∷◌}
 use Rattle.std.proofs.Common.{◌++◌}
 use Rattle.redis_connection.specs.Link.{Link}

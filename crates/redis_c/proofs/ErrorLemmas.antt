@@ -31,9 +31,9 @@ use Rattle.redis_wire.specs.declared.kind.LineKind.{LineKind}
 use Rattle.redis_wire.specs.declared.kind.LineKind.TheVariants as lines
 use Rattle.redis_wire.specs.declared.limits.Limits.{Limits}
 
--- ---- an error says what its line, or its bulk bytes, are
+-- ---- the text of an error is its line, or its bulk bytes
 
--- where an answer is an error, its text is such a one
+-- if a reply is an error, its text is such a one
 abbrev Errors : (List ℕ → Type 0) → Result Answer Halt → Type 0
 Errors P (Ok (refused t)) = P t
 Errors P (Ok a) = Unit {0}
@@ -210,13 +210,13 @@ text_there bytes front text len is =
     ∙ ap (take (length text)) (drop-append_seam front (text ++ (crlf ++ drop len bytes)))
     ∙ take-append_seam text (crlf ++ drop len bytes)
 
--- ---- bytes that are told apart
+-- ---- bytes that differ
 
 told_apart : (b : Bool) → not b ≡ true → b ≡ true → ⊥
 told_apart true h e = absurd cc
 told_apart false h e = absurd cc
 
--- bytes that are told apart are not the same
+-- bytes that differ are not the same
 pub apart : (x y : List ℕ) → not (bytes_eq x y) ≡ true → x ≡ y → ⊥
 apart x y h e = told_apart (bytes_eq x y) h ((bytes_eq-Decides x y).1 e)
 

@@ -1,4 +1,4 @@
--- What is told of entries that are found tells which outcome it is.
+-- The result returned for entries that are found determines the outcome.
 use Rattle.std.proofs.Common.{◌≡◌, ◌≢◌, ◌++◌, ◌∙◌, ℕ, Bool, true, false, List, [], take, drop, Option, None}
 use Rattle.std.proofs.Common.{Ok, Err, refl, sym, ap, subst}
 use Rattle.std.specs.Prelude.{nat_lt, if◌then◌else◌}
@@ -68,7 +68,7 @@ module _ (bytes : List ℕ) (len : ℕ) (a : Answer) (there : IsAnyReply default
   no_error_there text rest e sound s is =
       subst IsNoError (same_answer bytes len a there text rest (refused e) s is) sound
 
-  -- a value that is found is told as nothing else
+  -- a value that is found is reported as nothing else
   value_found : (n : ℕ) → IsNoError a → TellsFinding bytes n
   value_found n sound = record {
     early = λ more b some s. absurd (is_whole bytes len a there more b some s);
@@ -99,7 +99,7 @@ module _ (In : List ℕ → ℕ → Held → Type 0) (bytes : List ℕ)
   outcome_told (outcomes.OtherShape len) is = other_told bytes (outcomes.OtherShape len) is
   outcome_told (outcomes.Fault f) is = other_told bytes (outcomes.Fault f) is
 
-  -- which outcome is told of which bytes
+  -- which outcome is returned for which bytes
   pub finding_told : (o : Outcome) (n : ℕ) → n ≡ code o → IsOutcome In bytes room streams entries fields o
       → TellsFinding bytes n
   finding_told o n number is = subst (TellsFinding bytes) (sym number) (outcome_told o is)

@@ -1,4 +1,4 @@
--- What is told of the values of a reply tells which outcome it is.
+-- The result returned for the values of a reply determines the outcome.
 use Rattle.std.proofs.Common.{◌≡◌, ◌≤◌, ◌⊎◌, ◌∙◌, ℕ, List, [], ◌++◌, length, take, drop, Result, Ok, Err}
 use Rattle.std.proofs.Common.{refl, sym, ap, arith, subst, inl, inr}
 use Rattle.std.proofs.lemmas.List.{length-append, length-drop, take-append-drop, append-nil}
@@ -26,7 +26,7 @@ module _ (bytes : List ℕ) (len : ℕ) (a : Answer) (within : len ≤ length by
       (take-append-drop len bytes ∙ is)).1 in
       omega (arith, within, ap length left, length-drop len bytes, ap length is, length-append text rest)
 
-  -- what is told of a reply
+  -- the result returned for a reply
   reply_told : (n : ℕ) → (n ≡ 0) ⊎ (n ≡ 1) → TellsNodes bytes n len
   reply_told n is_told = record {
     early = λ more b some s. absurd (is_whole bytes len a there.reply more b some s);
@@ -57,7 +57,7 @@ found_told bytes nodes (Err (errors.Fault g)) u = record {
   fault = λ f first. let e = u.1 in let same : g ≡ f = cc in inl (ap code_of_fault same);
 }
 
--- which outcome is told of which bytes
+-- which outcome is returned for which bytes
 pub nodes_tell : (bytes : List ℕ) (nodes : List Node) (found : Result Found WireError) (n len : ℕ)
     → n ≡ nodes_code found → len ≡ nodes_len found → Finds default_limits bytes nodes found → TellsNodes bytes n len
 nodes_tell bytes nodes found n len number long is =

@@ -78,7 +78,7 @@ skip_there bytes (place ∷ places) (w ∷ front) more e =
     let s : f.others ≡ front ++ more = cc in
     skip_there bytes places front more (f.behind ∙ ap (λ (x : List (List ℕ)). Some x) s)
 
--- a text is at the place after so many
+-- a text is at the place at this index
 pub text_after : (bytes : List ℕ) (places : List Span) (front more : List (List ℕ)) (text : List ℕ) (place : Span)
     → place ≡ first_place (drop (length front) places) → texts_at bytes places ≡ Some (front ++ text ∷ more)
     → text_at bytes place ≡ Some text

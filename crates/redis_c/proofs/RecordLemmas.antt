@@ -1,4 +1,4 @@
--- Records whose texts are copied one after the other: what is put behind them changes none.
+-- Records whose texts are copied one after the other: texts appended later change none of them.
 use Rattle.std.proofs.Common.{◌≡◌, ◌≤◌, ◌+◌, ◌∙◌, ℕ, List, [], ◌∷◌, ◌++◌, length, take, drop, map, refl, sym, ap, arith, subst}
 use Rattle.std.proofs.Common.{◌<◌, get_or, add-one, flat_map, suc, Option, Some, None}
 use Rattle.std.proofs.lemmas.List.{length-append, length-drop, drop-append-le, take-append-le, map-append, flat_map_more}
@@ -24,7 +24,7 @@ are_more Is [] (y ∷ ms) p m r i = absurd r
 are_more Is (x ∷ ps) [] p m r i = absurd r
 are_more Is (x ∷ ps) (y ∷ ms) p m r i = (r.0, are_more Is ps ms p m r.1 i)
 
--- there are as many records as are told of
+-- the number of records is that of the described parts
 pub are_as_many : {P M : Type 0} (Is : P → M → Type 0) (ps : List P) (ms : List M) → AreAt Is ps ms
     → length ps ≡ length ms
 are_as_many Is [] [] r = refl
@@ -74,7 +74,7 @@ module _ (texts more : List ℕ) where
   pub consumer_stays : (p : ConsumerRecord) (c : Consumer) → IsConsumerAt texts p c → IsConsumerAt (texts ++ more) p c
   consumer_stays p c i = record { name = copy_stays p.name c.name i.name; pending = i.pending }
 
--- one record more, whose texts were put behind the others
+-- one record more, whose texts were appended to the others
 module _ {P M : Type 0} (Is : List ℕ → P → M → Type 0)
     (stays : (texts more : List ℕ) (p : P) (m : M) → Is texts p m → Is (texts ++ more) p m) where
   pub put_more : (texts more : List ℕ) (ps : List P) (ms : List M) (p : P) (m : M) → AreAt (Is texts) ps ms
@@ -105,7 +105,7 @@ module _ {P M : Type 0} (Is : List ℕ → P → M → Type 0)
             (subst (λ (x : List ℕ). AreAt (Is x) (ps ++ p ∷ []) (ms ++ m ∷ [])) (sym more) all)),
       )
 
--- what copying rows comes to is what reading the record of the reply comes to
+-- the result of copying rows is that of reading the record of the reply
 module _ {M T : Type 0} (reading : Tree → Option M) (bytes : List ℕ) (Holds : ℕ → ℕ → M → Type 0) (records_of : M → ℕ)
     (text_of : M → List ℕ) (room text_room len : ℕ) (m : M) (rows : List T) (copies : List ℕ) (table : List T)
     (texts : List ℕ) where
@@ -131,7 +131,7 @@ module _ {M T : Type 0} (reading : Tree → Option M) (bytes : List ℕ) (Holds 
   }
   copied_are (records.Unread o) c at many same holds = absurd c
 
--- records that are copied tell of the same
+-- records that are copied describe the same
 pub held_in_front : {P M : Type 0} (Is : List ℕ → P → M → Type 0) (rows table : List P) (copies texts : List ℕ) (ms : List M)
     → AreAt (Is copies) rows ms → (count text : ℕ) → take count table ≡ rows → take text texts ≡ copies
     → AreAt (Is (take text texts)) (take count table) ms
@@ -161,13 +161,13 @@ module _ (texts copies : List ℕ) (p : SummaryRecord) (items rows : List Consum
       subst (λ (x : List ℕ). IsSummaryAt x p rows s) (sym there)
       (subst (λ (x : List ConsumerRecord). IsSummaryAt texts p x s) (sym rows_are) is)
 
--- there are as many consumers as are told of
+-- the number of consumers is that of the described ones
 pub as_many_consumers : (texts : List ℕ) (p : SummaryRecord) (rows : List ConsumerRecord) (s : Option PendingSummary)
     → IsSummaryAt texts p rows s → length rows ≡ length (summary_consumers s)
 as_many_consumers texts p rows None is = ap length is.1
 as_many_consumers texts p rows (Some s) is = are_as_many (IsConsumerAt texts) rows s.consumers is.consumers
 
--- what is copied of a summary tells of the same
+-- the copy of a summary describes the same
 pub summary_in_front : (p : SummaryRecord) (rows table : List ConsumerRecord) (copies texts : List ℕ)
     (s : Option PendingSummary) → IsSummaryAt copies p rows s → (count text : ℕ) → take count table ≡ rows
     → take text texts ≡ copies → IsSummaryAt (take text texts) p (take count table) s

@@ -1,4 +1,4 @@
--- What is told of places that are found, and of tables that have too little room for them.
+-- The result returned for places that are found, and for tables that have too little room for them.
 use Rattle.std.proofs.Common.{◌≡◌, ◌≤◌, ◌+◌, ◌∙◌, ℕ, List, length, take, drop, map, refl, sym, ap, arith, subst, inl, inr}
 use Rattle.std.proofs.Common.{Option, Some, None}
 use Rattle.std.proofs.lemmas.List.{length-append, length-map, length-take, take-append-drop}
@@ -13,7 +13,7 @@ use Rattle.redis_c.specs.declared.outcome.Outcome.{Outcome}
 use Rattle.redis_c.specs.declared.outcome.Outcome.TheVariants as outcomes
 
 module _ (len : ℕ) (counts room : Counts) where
-  -- what is wanted for places is told of them
+  -- the number of places that is needed is the number returned
   pub wanting_is : (In : List ℕ → ℕ → Held → Type 0) (bytes : List ℕ) (held : Held) (o : Outcome)
       → IsWanting len counts room o → In bytes len held → HasCounts counts held → IsRoom In bytes room o
   wanting_is In bytes held (outcomes.Room l c) w at many = (
@@ -29,7 +29,7 @@ module _ (len : ℕ) (counts room : Counts) where
   wanting_is In bytes held (outcomes.OtherShape l) w at many = absurd w
   wanting_is In bytes held (outcomes.Fault f) w at many = absurd w
 
-  -- so many entries are wanted
+  -- this number of entries is needed
   pub entries_wanted : (some rows n : ℕ) (o : Outcome) → IsWanting len counts room o → len ≡ n → counts.entries ≡ rows
       → TellsPlaces some rows n (code o) (found o).len (found o).entries
   entries_wanted some rows n (outcomes.Room l c) w same many =
@@ -41,7 +41,7 @@ module _ (len : ℕ) (counts room : Counts) where
   entries_wanted some rows n (outcomes.OtherShape l) w same many = absurd w
   entries_wanted some rows n (outcomes.Fault f) w same many = absurd w
 
-  -- so many streams are wanted
+  -- this number of streams is needed
   pub streams_wanted : (some rows n : ℕ) (o : Outcome) → IsWanting len counts room o → len ≡ n → counts.streams ≡ rows
       → TellsPlaces some rows n (code o) (found o).len (found o).streams
   streams_wanted some rows n (outcomes.Room l c) w same many =
@@ -53,7 +53,7 @@ module _ (len : ℕ) (counts room : Counts) where
   streams_wanted some rows n (outcomes.OtherShape l) w same many = absurd w
   streams_wanted some rows n (outcomes.Fault f) w same many = absurd w
 
-  -- so many fields are wanted
+  -- this number of fields is needed
   pub fields_wanted : (some rows n : ℕ) (o : Outcome) → IsWanting len counts room o → len ≡ n → counts.fields ≡ rows
       → TellsPlaces some rows n (code o) (found o).len (found o).fields
   fields_wanted some rows n (outcomes.Room l c) w same many =
@@ -65,7 +65,7 @@ module _ (len : ℕ) (counts room : Counts) where
   fields_wanted some rows n (outcomes.OtherShape l) w same many = absurd w
   fields_wanted some rows n (outcomes.Fault f) w same many = absurd w
 
--- so many places are in a table that has room for them
+-- this number of places is in a table that has room for them
 pub places_there : (some rows n told_len told_places : ℕ) → told_len ≡ n → told_places ≡ rows → told_places ≤ some
     → TellsPlaces some rows n 0 told_len told_places
 places_there some rows n told_len told_places same many fits =
@@ -103,7 +103,7 @@ pub held_fits : {A : Type 0} (k : ℕ) (table : List A) (count room : ℕ) → c
     → length table ≡ room → count ≤ room
 held_fits k table count room many whole = omega (arith, many, whole, length-take k table)
 
--- C is told what the outcome tells
+-- C receives the result of the outcome
 pub told_places : (of : Found → ℕ) (o : Outcome) (n : ℕ) (f : Found) (some rows len : ℕ) → n ≡ code o → f ≡ found o
     → TellsPlaces some rows len (code o) (found o).len (of (found o)) → TellsPlaces some rows len n f.len (of f)
 told_places of o n f some rows len number beside tells =

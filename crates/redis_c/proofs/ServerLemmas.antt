@@ -1,4 +1,4 @@
--- Settings that are told are the options in front of the arguments.
+-- The returned settings are the options at the start of the arguments.
 use Rattle.std.proofs.Common.{◌≡◌, ◌∙◌, ℕ, List, ◌++◌, drop, Option, Some, None, false, sym, ap}
 use Rattle.std.proofs.lemmas.List.{take-append-drop}
 use Rattle.std.specs.Prelude.{option_map, is_some}

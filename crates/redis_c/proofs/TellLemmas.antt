@@ -1,4 +1,4 @@
--- What is told of bytes tells which outcome it is: no two of them are true of the same bytes.
+-- The result returned for bytes determines the outcome: no two outcomes are true of the same bytes.
 use Rattle.std.proofs.Common.{◌≡◌, ◌≢◌, ◌⊎◌, ◌∙◌, ℕ, List, [], ◌++◌, length, take, drop, Option, Some, None}
 use Rattle.std.proofs.Common.{Ok, refl, sym, ap, arith, subst, inl, inr}
 use Rattle.std.proofs.lemmas.List.{length-append, take_at, take-append-drop, append-nil, append_assoc, nil_from_length}
@@ -36,7 +36,7 @@ any_form x y more others a b s t same =
     (ap (reply_at default_limits) same ∙ (reply_fits default_limits).again y others b t)
 
 module _ (bytes : List ℕ) (len : ℕ) (b : Answer) (there : IsAnyReply default_limits (take len bytes) b) where
-  -- so what is there is what they say
+  -- so the reply there is this one
   pub same_answer : (text rest : List ℕ) (a : Answer) → IsReply default_limits text a → bytes ≡ text ++ rest → b ≡ a
   same_answer text rest a s is =
       (any_form (take len bytes) text (drop len bytes) rest b a there s.reply (take-append-drop len bytes ∙ is)).0
@@ -217,7 +217,7 @@ module _ {M : Type 0} (reading : Tree → Option M) (bytes : List ℕ) (Holds : 
     other = other_told r are;
   }
 
-  -- which outcome is told of which bytes
+  -- which outcome is returned for which bytes
   pub records_tell : (r : Records) (n : ℕ) → n ≡ records_code r → Are r
       → TellsRecords reading records_of text_of room text_room bytes n
   records_tell r n number are =

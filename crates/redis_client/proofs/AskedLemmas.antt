@@ -1,16 +1,16 @@
--- Commands that are asked one after the other, in two parts.
+-- Commands that are sent one after the other, in two parts.
 use Rattle.std.proofs.Common.{◌≡◌, ◌⊎◌, ℕ, List, [], ◌∷◌, ◌++◌, inl, inr, subst, sym}
 use Rattle.redis_connection.specs.Link.{Link}
 use Rattle.redis_connection.specs.declared.error.AskError.{AskError}
 use Rattle.redis_client.specs.Asked.{AsksEach, BreaksOff}
 
--- the first commands were answered, and then the others
+-- the first commands got their replies, and then the others
 pub both : (xs ys : List (List (List ℕ))) (old mid new : Link) → AsksEach old mid xs → AsksEach mid new ys
     → AsksEach old new (xs ++ ys)
 both [] ys old mid new first then = subst (λ l. AsksEach l new ys) first then
 both (x ∷ xs) ys old mid new first then = (first.0, first.1, both xs ys first.0 mid new first.2 then)
 
--- the first were answered, and among the others one was not
+-- the first got their replies, and among the others one did not
 pub breaks_later : (xs ys : List (List (List ℕ))) (old mid new : Link) (e : AskError) → AsksEach old mid xs
     → BreaksOff mid new ys e → BreaksOff old new (xs ++ ys) e
 breaks_later [] ys old mid new e first then = subst (λ l. BreaksOff l new ys e) first then

@@ -1,4 +1,4 @@
--- Lemmas on what is asked.
+-- Lemmas on what is sent.
 pub mod AskedLemmas
 pub mod PortLemmas
 pub mod ClusterLemmas

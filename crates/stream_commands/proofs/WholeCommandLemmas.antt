@@ -12,7 +12,7 @@ use Rattle.stream_options.proofs.UniqueDecoding.{autoclaim_exact}
 use Rattle.stream_options.specs.Claim.{claim_sentence, claim_words}
 use Rattle.stream_options.specs.Words.{among, begins}
 
--- the first argument, and those behind it
+-- the first argument, and those after it
 abbrev head : List (List ℕ) → List ℕ
 head [] = []
 head (x ∷ xs) = x
@@ -60,7 +60,7 @@ not_both : {A : Type 0} (x : Bool) → x ≡ false → x ≡ true → A
 not_both true f t = absurd cc
 not_both false f t = absurd cc
 
--- an id in front is no beginning of options
+-- options do not begin with an id
 no_opening : {A : Type 0} (words : List (List ℕ)) (id : List ℕ) (ids args : List (List ℕ)) → IsApart words id
     → Opens words args → args ≡ id ∷ ids → A
 no_opening words id ids args p (inl none) e = absurd cc
@@ -108,7 +108,7 @@ len : (f : Pair → List ℕ) (ps : List Pair) → length (map f ps) ≡ length 
 len f [] = refl
 len f (p ∷ ps) = ap suc (len f ps)
 
--- so many keys and ids
+-- this number of keys and ids
 columns_len : (ps : List Pair) → length (keys ps ++ ids ps) ≡ length ps + length ps
 columns_len ps = length-append (keys ps) (ids ps)
     ∙ (ap (λ n. n + length (ids ps)) (len (λ s. s.0) ps) ∙ ap (λ n. length ps + n) (len (λ s. s.1) ps))

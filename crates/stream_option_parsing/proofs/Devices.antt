@@ -1,4 +1,4 @@
--- What is told, step by step.
+-- What a reader and a writer report, step by step.
 use Rattle.std.proofs.Common.{ℕ, List, [], ◌++◌, take, drop, length, ◌-◌, refl, sym, ◌∙◌, ap, append_assoc, append-nil}
 use Rattle.std.proofs.Common.{Option, Some, None}
 use Rattle.std.specs.Io.KnownBytes.{Appends, Consumes, Keeps}

@@ -1,4 +1,4 @@
--- Pieces, and bytes in front of them.
+-- Pieces, and bytes prepended to them.
 use denote.Ref.{Bor}
 use Rattle.std.specs.Global.{Vec}
 use Rattle.std.proofs.lemmas.List.{map-append}
@@ -37,7 +37,7 @@ take_next bytes i lt = rw add-one (take-suc bytes i 0 lt)
 pub tail_is : (bytes : List ℕ) (n : ℕ) → take (length bytes - n) (drop n bytes) ≡ drop n bytes
 tail_is bytes n = grind (arith, common_steps)
 
--- another byte in front
+-- another byte prepended
 pub front_more : (mark : ℕ) (end : List (List ℕ)) (bytes : List ℕ) (i : ℕ) → i < length bytes
     → eqb (get_or bytes i 0) mark ≡ false
     → with_front (take i bytes) (pieces mark end (drop i bytes))

@@ -1,4 +1,4 @@
--- An input has at most one answer.
+-- An input has at most one output.
 use Rattle.std.proofs.Common.{◌≡◌, ℕ, List, [], ◌∷◌, ◌++◌, refl, sym, ◌∙◌, ap, Option, Some, None}
 use Rattle.stream_options.proofs.Sentences.{ReadsAlike, alike}
 use Rattle.stream_options.proofs.UniqueDecoding.{trim_reads, add_reads, config_reads, autoclaim_reads, claim_reads}
@@ -48,6 +48,6 @@ answers_equal (line ∷ lines) a b v w =
     v.3 ∙ ap (λ r. reply_line r ++ v.1) (one_reply (parts_of line) v.0 w.0 v.2 w.2)
     ∙ ap (λ t. reply_line w.0 ++ t) (answers_equal lines v.1 w.1 v.4 w.4) ∙ sym w.3
 
--- two answers to one input are equal
+-- two outputs for one input are equal
 pub one_answer : (input a b : List ℕ) → IsAnswer input a → IsAnswer input b → a ≡ b
 one_answer input a b v w = answers_equal (lines_of input) a b v w

@@ -28,7 +28,7 @@ missing false true c arg rest e = absurd cc
 missing false false true arg rest e = absurd cc
 missing false false false arg rest e = refl
 
--- a word of a policy stands in front
+-- the first argument is a word of a policy
 pub policy_there : (arg : List ℕ) (rest : List (List ℕ)) (p : Policy) → Some p ≡ policy_of arg
     → policy_clause (arg ∷ rest) ≡ Some (Some p, rest)
 policy_there arg rest p e = there (bytes_eq arg (codes "KEEPREF")) (bytes_eq arg (codes "DELREF"))

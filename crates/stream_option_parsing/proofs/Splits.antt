@@ -1,4 +1,4 @@
--- What a reading says of the splits of an argument list.
+-- What a reading means for the splits of an argument list.
 use Rattle.std.proofs.Common.{◌≡◌, ℕ, zero, suc, get_or, add-one, ◌-◌, ◌+◌, ◌≤◌, ◌<◌, Bool, true, false, ◌||◌, List, []}
 use Rattle.std.proofs.Common.{◌∷◌, ◌++◌, map, length, drop, Option, Some, None, refl, sym, ◌∙◌, subst, ap, arith}
 use Rattle.std.specs.Str.{bytes_eq}

@@ -50,7 +50,7 @@ pub strategy_ends : (args rest : List (List ℕ)) (s : Strategy) → unlimited_a
     → number_clause (codes "LIMIT") rest ≡ None → strategy_at args ≡ None
 strategy_ends args rest s e f = after_bound (bound_at args) s rest None e f
 
--- no bound stands in front
+-- the arguments do not begin with a bound
 pub strategy_missing : (args : List (List ℕ)) → unlimited_at args ≡ None → strategy_at args ≡ None
 strategy_missing args e = no_bound (bound_at args) e
 

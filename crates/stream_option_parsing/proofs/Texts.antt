@@ -16,7 +16,7 @@ pub is_no_text : (bytes : List ℕ) → (IsUtf8 bytes → ⊥) → text_of bytes
 unfolding text_of
 is_no_text bytes h = rw (false_from_ne_true _ (λ e. h (IsUtf8-from_is_utf8 bytes e))) refl
 
--- where bytes are a text, nothing is said of an error where they are none
+-- if bytes are a text, nothing is required of an error if they are none
 pub not_of_text : {T : Type 0} (bytes : List ℕ) (result : Result T SentenceError) → IsUtf8 bytes
     → IfErr result (λ e. text_of bytes ≡ None → e ≡ NotASentence)
 not_of_text bytes (Ok t) h = tt

@@ -46,7 +46,7 @@ module _ {F : Type 0} (s : Setting F) (fit : Fit s) where
   not_filled k (Some ask_last) = refl
   not_filled k (Some (batch b)) = refl
 
-  -- a request that came to the server in another state, and whose reply the producer does not hear
+  -- a request that arrived at the server in another state, and whose reply the producer does not get
   unheard : (m : ℕ) (k v : group.World F) (b : Bool) (p : Producer F) (o : Option (Request F))
       → In m (filled_by false k o) (breaks (arrived false k o p)) → In m k (breaks (arrived b v o p))
   unheard m k v b p None i = i
@@ -189,7 +189,7 @@ among_front (suc m) [] ys e l h = absurd (omega (arith, l))
 among_front (suc m) (x ∷ xs) ys e l (inl q) = inl q
 among_front (suc m) (x ∷ xs) ys e l (inr h) = inr (among_front m xs ys e (omega (arith, l)) h)
 
--- so many of the records are in the log
+-- this number of the records is in the log
 pub first_in_log : {F : Type 0} (s : Setting F) (fit : Fit s) (m : ℕ) (w : World F) → Logs s fit m w → (e : Entry F)
     → Among e (take m (entries s.base s.records)) → Among e (log w.now)
 first_in_log {F} s fit m w i e h =

@@ -510,7 +510,7 @@ module _ {F : Type 0} where
         ]
       ]
 
-  -- a log of so many entries is all records
+  -- a log of this number of entries is all records
   whole_log : (s : Setting F) (fit : Fit s) (m : ℕ) (w : World F) → Logs s fit m w → m ≡ length s.records
       → log w.now ≡ entries s.base s.records
   whole_log s fit m w i q =

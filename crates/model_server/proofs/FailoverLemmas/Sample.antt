@@ -12,7 +12,7 @@ use Rattle.model_server.specs.Failover.Law.{after, AllWait, NoOtherAdds, NoOther
 abbrev two : Setting ℕ
 two = record { records = 7 ∷ 8 ∷ []; base = 3; name = codes "me" }
 
--- the producer asks for the last id; one replica was asked for, and confirms
+-- the producer requests the last id; one replica has to confirm, and does
 abbrev asking : List (Event ℕ) → List (Event ℕ)
 asking more = Plain (Send 0) ∷ Arrive_waits true 1 1 ∷ Plain Hear ∷ more
 
@@ -20,7 +20,7 @@ asking more = Plain (Send 0) ∷ Arrive_waits true 1 1 ∷ Plain Hear ∷ more
 abbrev lost_batch : List (Event ℕ) → List (Event ℕ)
 lost_batch more = asking (Plain (Send 2) ∷ Arrive_waits true 1 0 ∷ Failover 1 ∷ more)
 
--- it asks again, sends them again, and they are confirmed
+-- it requests that again, sends them again, and they are confirmed
 abbrev filling : List (Event ℕ)
 filling = lost_batch (asking (Plain (Send 2) ∷ Arrive_waits true 1 1 ∷ Plain Hear ∷ []))
 

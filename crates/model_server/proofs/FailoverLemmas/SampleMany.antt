@@ -35,7 +35,7 @@ loose_ask = Plain (Ask 4 (λ id. false) (codes "0-0"))
 abbrev loose_reading : List (Event ℕ)
 loose_reading = loose_ask ∷ Plain (Take []) ∷ loose_ask ∷ Plain (Take []) ∷ loose_ask ∷ settled []
 
--- ann does so and acknowledges, the master dies, and bob does the same; none of them asks WAIT
+-- ann does so and acknowledges, the master fails, and bob does the same; none of them sends WAIT
 abbrev loose : List (Name × Event ℕ)
 loose =
     by (codes "ann") (
@@ -52,7 +52,7 @@ pub in_both_files : files_and_pending (run_many one loose first_many) ≡ (first
 unfolding digits
 in_both_files = refl
 
--- both ask WAIT. The failover takes ann's acknowledgement back: bob is given nothing, and ann has the entry again
+-- both send WAIT. The failover undoes ann's acknowledgement: bob gets nothing, and ann has the entry again
 abbrev ask : Event ℕ
 ask = Ask_waits 4 (λ id. false) (codes "0-0") 1 1
 

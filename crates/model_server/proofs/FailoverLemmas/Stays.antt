@@ -1,4 +1,4 @@
--- What is in the file was handed out in each state that the server may go back to.
+-- What is in the file was delivered in each state that the server may return to.
 use Rattle.std.proofs.Common.{◌≡◌, inl, inr, refl, ap, subst, ◌∙◌, ℕ, Bool, true, false}
 use Rattle.std.proofs.Common.{not, ◌&&◌, List, [], ◌∷◌, map, filter, Option}
 use Rattle.std.proofs.Common.{Some, None, if◌then◌else◌}
@@ -29,7 +29,7 @@ use Rattle.model_server.proofs.FailoverLemmas.Distinct.{Distinct, distinct_after
 use Rattle.model_server.proofs.FailoverLemmas.Lines.{Lines, more, taken, synced, restarted, cut_off, answered}
 
 module _ {F : Type 0} where
-  -- what is handed out with its fields is of the entries
+  -- an entry delivered with its fields is one of the entries
   nil_or_whole : (deleted : List Id) (es : List (Entry F)) (e : Entry F)
       → Among (e.0, Some e.1) (map (as_it_is deleted) es) → Among e es
   nil_or_whole deleted [] e h = absurd h
@@ -55,7 +55,7 @@ module _ {F : Type 0} where
       let P : List (Delivered F) → Type 0 = λ l. Among (e.0, Some e.1) l in
       nil_or_whole [] es e (subst P (whole_is es) h)
 
-  -- what the server hands out is in its log, and is not to come
+  -- an entry that the server delivers is in its log, and is not undelivered
   pub handed : (name : Name) (n : ℕ) (pick : Id → Bool) (next : Id) (p : Phase) (k : group.World F) (e : Entry F)
       → Among (e.0, Some e.1) (entries_in (answer_for name n pick next p k))
       → Among e (after_asking name n pick next p k).seen
@@ -69,7 +69,7 @@ module _ {F : Type 0} where
       among_right e k.seen (passed k.deleted n k.fresh)
       (given_passed k.deleted n k.fresh e (whole_from (given k.deleted n k.fresh) e h))
 
-  -- an entry that the server handed out in this state, or passed over
+  -- an entry that the server delivered in this state, or skipped
   abbrev pub Seen : group.World F → Entry F → Type 0
   Seen k e = Among e k.seen
 

@@ -1,4 +1,4 @@
--- Without WAIT too nothing of the log is lost, if nobody deletes.
+-- Without WAIT too no entry of the log is lost, if there are no deletions.
 use Rattle.std.proofs.Common.{◌≡◌, inl, inr, refl, subst, ◌∙◌, ℕ, Bool, true, false, ◌&&◌, List, [], ◌∷◌, ◌++◌}
 use Rattle.std.proofs.Common.{Option, Some, None, if◌then◌else◌}
 use Rattle.std.specs.Option.{is_none}

@@ -14,7 +14,7 @@ use Rattle.model_server.specs.Failover.Law.{after}
 abbrev pub two : Setting ℕ
 two = record { records = 7 ∷ 8 ∷ []; base = 0; name = codes "me" }
 
--- the producer asks for the last id, and sends so many records
+-- the producer requests the last id, and sends this number of records
 abbrev adding : ℕ → List (Event ℕ) → List (Event ℕ)
 adding n more =
     Plain (Send 0) ∷ Plain (Arrive true) ∷ Plain Hear ∷ Plain (Send n) ∷ Plain (Arrive true) ∷ Plain Hear ∷ more
@@ -22,17 +22,17 @@ adding n more =
 abbrev pub stage_and_log : World ℕ → Stage × List (Entry ℕ)
 stage_and_log w = (w.now.producer.stage, log w.now)
 
--- the server said that both are added, and the producer is done
+-- the server replied that both are added, and the producer is done
 pub answered : stage_and_log (after two (adding 2 [])) ≡ (knows 2, entries 0 (7 ∷ 8 ∷ []))
 unfolding digits
 answered = refl
 
--- then the master dies, and a replica that had not heard of the batch is the master: both are gone
+-- then the master fails, and a replica without the batch is the new master: both are gone
 pub answered_is_lost : log (after two (adding 2 (Failover 4 ∷ []))).now ≡ []
 answered_is_lost = refl
 
--- the first record is added, and the second is on the way as the master dies. If it comes to the new master, the first
--- can be added no more: its id is below the last one. The producer takes both to be in
+-- the first record is added, and the second is on the way as the master fails. If it reaches the new master, the first
+-- can no longer be added: its id is below the last one. The producer counts both as added
 abbrev gap : List (Event ℕ)
 gap =
     adding 1 (Plain (Send 1) ∷ Failover 4 ∷ Plain (Arrive_late 0 true) ∷ Plain (Send 0) ∷ Plain (Arrive true) ∷
@@ -68,7 +68,7 @@ pub handled_is_new : file_pending_fresh (after two (adding 1 (handling (Failover
 unfolding digits
 handled_is_new = refl
 
--- if it comes to the same consumer, that looks it up, and adds no second line
+-- if it arrives at the same consumer, that finds its id in the file, and adds no second line
 pub looked_up : file_pending_fresh (after two (adding 1 (handling (Failover 5 ∷ handling [])))) ≡ (first_one, [], [])
 unfolding digits
 looked_up = refl

@@ -16,7 +16,7 @@ use Rattle.model_server.specs.Failover.World.{World, Event, Plain, Arrive_waits,
 use Rattle.model_server.specs.Failover.World.{is_confirmed, happens, first_world}
 use Rattle.model_server.proofs.FailoverLemmas.Without.{two, run_by, stage_and_log, file_pending_fresh, first_one}
 
--- the world after the reply to WAIT, if those who ask trust it so
+-- the world after the reply to WAIT, if it is trusted in this way
 abbrev waited_by : (asked said : ℕ) → Bool → List (group.World ℕ) → once.Event ℕ → once.World ℕ → World ℕ
 waited_by asked said trusts kept break w = remembers
     (if is_confirmed asked said then [] else kept)
@@ -29,7 +29,7 @@ trusting trusts w (Ask_waits n pick next asked said) =
     waited_by asked said (trusts asked said) w.kept Reconnect (once.happens two w.now (Ask n pick next))
 trusting trusts w e = happens two w e
 
--- the producer sends so many records, `said` replicas confirm of those asked for, and the master dies
+-- the producer sends this number of records, `said` of the requested replicas confirm, and the master fails
 abbrev adding : (n asked said : ℕ) → List (Event ℕ) → List (Event ℕ)
 adding n asked said more =
     Plain (Send 0) ∷ Arrive_waits true asked asked ∷ Plain Hear ∷ Plain (Send n) ∷ Arrive_waits true asked said ∷
@@ -44,7 +44,7 @@ not_looked_at = refl
 pub not_looked_at_is_lost : log (run_by (trusting (λ asked said. true)) (adding 2 1 0 (Failover 2 ∷ [])) first_world).now ≡ []
 not_looked_at_is_lost = refl
 
--- two replicas were asked for and one confirms, which is taken as enough
+-- two replicas have to confirm and one does, which is taken as enough
 pub too_few : stage_and_log (run_by (trusting (λ asked said. nat_lt 0 said)) (adding 2 2 1 []) first_world)
     ≡ (knows 2, entries 0 (7 ∷ 8 ∷ []))
 unfolding digits
@@ -68,13 +68,13 @@ pub handled_early : file_pending_fresh (run_by (trusting (λ asked said. true)) 
 unfolding digits
 handled_early = refl
 
--- a WAIT counts what its connection wrote. If that is nothing, all replicas say so, and none needs to have anything.
--- Here it follows a question, and is taken as a confirmation of all
+-- a WAIT covers what its connection wrote. If that is nothing, all replicas confirm, and none needs to have anything.
+-- Here it follows a request for the last id, and is taken as a confirmation of all
 abbrev wrote_nothing : World ℕ → Event ℕ → World ℕ
 wrote_nothing w (Arrive_waits executes asked said) = remembers w.kept (once.happens two w.now (Arrive executes))
 wrote_nothing w e = happens two w e
 
--- both are added, unconfirmed, and the producer asks for the last id on another connection
+-- both are added, unconfirmed, and the producer requests the last id on another connection
 abbrev asking_again : List (Event ℕ) → List (Event ℕ)
 asking_again more = adding 2 1 0 (Plain Break ∷ Plain (Send 0) ∷ Arrive_waits true 1 1 ∷ Plain Hear ∷ more)
 

@@ -62,7 +62,7 @@ module _ {F : Type 0} where
   is_alone id f (d ∷ []) le (inr h) = absurd h
   is_alone id f (d ∷ e ∷ ds) le h = absurd (omega (arith, le))
 
-  -- what is pending was read, and was delivered so often at most
+  -- each pending entry was read, and was delivered at most this number of times
   pub record Counted (so_often : Id → ℕ) (w : World F) : Type 0 where
     pub was_read : (p : Pending) → Among p w.pending → Among p.id (ids_of w.seen)
     pub count : (p : Pending) → Among p w.pending → p.count ≤ 1 + so_often p.id
@@ -71,7 +71,7 @@ module _ {F : Type 0} where
   abbrev pub Next : (Id → ℕ) → List (Delivered F) → Id → ℕ
   Next k ds id = k id + alone id ds
 
-  -- one entry of what is pending, after a step of which these were the answer
+  -- one of the pending entries, after a step with this reply
   pub record Keeps (k : Id → ℕ) (ds : List (Delivered F)) (w : World F) (p : Pending) : Type 0 where
     pub was_read : Among p.id (ids_of w.seen)
     pub count : p.count ≤ 1 + (k p.id + alone p.id ds)
@@ -102,7 +102,7 @@ module _ {F : Type 0} where
 
   -- ---- its own pending entries
 
-  -- one that is picked and was not deleted is in the answer
+  -- a picked entry that was not deleted is in the reply
   reread_has : (k : Id → ℕ) (w : World F) (c : Name) (pick : Id → Bool) → Counted k w → (q : Pending)
       → Among q w.pending → (pick q.id && (bytes_eq q.consumer c && not (listed w.deleted q.id))) ≡ true
       → (f : F) × Among (q.id, Some f) (reread pick c w.pending w.deleted w.seen)
@@ -149,7 +149,7 @@ module _ {F : Type 0} where
 
   -- ---- claims
 
-  -- one that is picked and was not deleted is in the answer
+  -- a picked entry that was not deleted is in the reply
   claim_has : (k : Id → ℕ) (w : World F) (pick : Id → Bool) → Counted k w → (q : Pending)
       → Among q w.pending → pick q.id ≡ true → listed w.deleted q.id ≡ false
       → (f : F) × Among (q.id, Some f) (claim_answer pick w.pending w.deleted w.seen)

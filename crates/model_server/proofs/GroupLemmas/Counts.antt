@@ -44,7 +44,7 @@ module _ {F : Type 0} (id : Id) where
       let r = times_append id (whole_one d.0 d.1) (whole_ids ds) in
       omega arith
 
-  -- how often it is in an answer on the way
+  -- how often it is in a reply on the way
   abbrev on_way : List (Reply F) → ℕ
   on_way [] = 0
   on_way (r ∷ rs) = times id (whole_ids (entries_in r.answer)) + on_way rs

@@ -19,7 +19,7 @@ use Rattle.model_server.proofs.GroupLemmas.Among.{among_item, among_but, listed_
 use Rattle.model_server.proofs.GroupLemmas.Steps.{passed_given, given_passed, claimed_keeps, acknowledged_keeps, ids_append}
 use Rattle.model_server.proofs.GroupLemmas.Steps.{raised_ids, IsTrueOf, acked, handled_seen}
 
--- what is said of the part of each, after a change to one of them
+-- the statement about the part of each, after a change to one of them
 with_part : {A X : Type 0} (each : Name → A) (name : Name) (a : A) (part : A → List X) (P : X → Type 0)
     → ((c : Name) (x : X) → Among x (part (each c)) → P x) → ((x : X) → Among x (part a) → P x)
     → (c : Name) (x : X) → Among x (part (with_one each name a c)) → P x
@@ -47,7 +47,7 @@ module _ {F : Type 0} where
   pub record Inv (w : World F) : Type 0 where
     -- the entries up to the last delivered id
     pub lost : (e : Entry F) → Among e w.seen → IsPending w e.0 ⊎ IsSettled w e.0
-    -- answers on the way say what is so
+    -- replies on the way are true
     pub answers : (r : Reply F) → Among r w.replies → (d : Delivered F) → Among d (entries_in r.answer)
         → IsTrueOf w.deleted w.seen d.0 d.1
     -- what workers remember to commit, and to acknowledge
@@ -104,7 +104,7 @@ module _ {F : Type 0} where
       }
   deletes w i id false = i
 
-  -- one more answer on the way
+  -- one more reply on the way
   one_more : (w : World F) (c : Name) (a : Answer F) (deleted : List Id) (seen : List (Entry F))
       → ((d : Delivered F) → Among d (entries_in a) → IsTrueOf deleted seen d.0 d.1)
       → ((r : Reply F) → Among r w.replies → (d : Delivered F) → Among d (entries_in r.answer)

@@ -1,4 +1,4 @@
--- The text of an id says its two numbers.
+-- The text of an id determines its two numbers.
 use Rattle.std.proofs.Common.{◌≡◌, ◌⊎◌, inl, inr, refl, ap, ◌∙◌, ℕ, ◌+◌, ◌<◌, ◌≤◌, ◌^◌, ◌%◌, nat_lt, nat_eq}
 use Rattle.std.proofs.Common.{decimal, arith, Bool, true, false, ◌&&◌, ◌||◌, List, [], ◌∷◌, ◌++◌}
 use Rattle.std.proofs.lemmas.Fmt.{decimal_by_steps, decimal_injective}

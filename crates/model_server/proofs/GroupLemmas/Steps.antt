@@ -138,7 +138,7 @@ acknowledged_keeps ids (p ∷ ps) id h =
     in case (listed ids p.id) refl h
 
 module _ {F : Type 0} (deleted : List Id) (seen : List (Entry F)) where
-  -- an entry as it is handed out is of the log, or was deleted
+  -- a delivered entry is in the log, or was deleted
   abbrev pub IsTrueOf : Id → Option F → Type 0
   IsTrueOf id None = Among id deleted
   IsTrueOf id (Some fields) = Among (id, fields) seen

@@ -141,7 +141,7 @@ module _ {F : Type 0} where
   abbrev Unique : List (Entry F) → Type 0
   Unique log = (id : Id) (a b : F) → Among (id, a) log → Among (id, b) log → a ≡ b
 
-  -- the first of ascending numbers is none of those behind it
+  -- the first of ascending numbers is none of those after it
   not_behind : (n : Numbers) (ns : List Numbers) (es : List (Entry F)) (id : Id) (f : F) → id ≡ id_text n
       → ids_of es ≡ map id_text ns
       → ((m : Numbers) → Among m ns → IsTrue (is_below n m)) → fits n ≡ true

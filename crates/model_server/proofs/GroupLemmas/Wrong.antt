@@ -44,7 +44,7 @@ pub still_pending : (after_by by_the_right (λ e. false)).pending
 unfolding digits
 still_pending = refl
 
--- the crash cut off a commit that was in the file: it is acknowledged, and is not handed out again
+-- the crash interrupted a commit that was in the file: it is acknowledged, and is not redelivered
 pub kept_and_acknowledged : (after_by by_the_right (λ e. true)).acknowledged_ids ≡ codes "1-0" ∷ []
 unfolding digits
 kept_and_acknowledged = refl

@@ -1,4 +1,4 @@
--- Lists in which none stands twice.
+-- Lists in which no item is twice.
 use Rattle.std.proofs.Common.{◌≡◌, inl, inr, refl, sym, ap, subst, ◌∙◌, ℕ, zero, suc}
 use Rattle.std.proofs.Common.{Bool, true, false, List, [], ◌∷◌, ◌++◌, map, filter, Option, Some, None}
 use Rattle.std.proofs.Common.{if◌then◌else◌}
@@ -99,7 +99,7 @@ module _ {F : Type 0} where
       ] in
       case (listed deleted x.0)
 
-  -- the ids of what is handed out
+  -- the ids of the delivered entries
   abbrev pub outs : List (Delivered F) → List Id
   outs ds = map (λ d. d.0) ds
 
@@ -111,7 +111,7 @@ module _ {F : Type 0} where
   outs_as deleted [] = refl
   outs_as deleted (x ∷ es) = ap (λ l. x.0 ∷ l) (outs_as deleted es)
 
-  -- what is handled was handed out with its fields
+  -- each handled entry was delivered with its fields
   one_from : (id : Id) (o : Option F) (v : Verdict) (x : Entry F) → Among x (handled_one id o v)
       → ◌≡◌ {A = Delivered F} (id, o) (x.0, Some x.1)
   one_from id None v x h = absurd h

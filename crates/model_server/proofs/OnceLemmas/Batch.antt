@@ -31,7 +31,7 @@ module _ {F : Type 0} where
   length_numbered base [] = refl
   length_numbered base (r ∷ rs) = ap suc (length_numbered (base + 1) rs)
 
-  -- the id of a record says its number
+  -- the id of a record determines its number
   pub number_of : (base : ℕ) (rs : List F) (front : List (Numbered F)) (x : Numbered F) (back : List (Numbered F))
       → numbered base rs ≡ front ++ x ∷ back → x.0 ≡ (base + length front + 1, 0)
   number_of base [] [] x back e = absurd (no_cons x back e)

@@ -1,4 +1,4 @@
--- The log is the first records, and what the producer says is so.
+-- The log is a prefix of the records, and what the producer knows is true.
 use Rattle.std.proofs.Common.{◌≡◌, inl, inr, refl, sym, ap, subst, ◌∙◌, ℕ, ◌+◌, ◌≤◌, arith}
 use Rattle.std.proofs.Common.{Bool, true, false, ◌&&◌, List, [], ◌∷◌, ◌++◌, map, length, take, drop, Option}
 use Rattle.std.proofs.Common.{Some, None, if◌then◌else◌}
@@ -43,7 +43,7 @@ module _ {F : Type 0} (s : Setting F) (fit : Fit s) where
   abbrev pub PartOf : ℕ → List (Numbered F) → Type 0
   PartOf m b = Part s.base s.records fit m b
 
-  -- what is on the way is the question, or a batch of the records that the producer waits for
+  -- the request on the way is that for the last id, or a batch of the records that the producer waits for
   abbrev pub SentIs : ℕ → Stage → Option (Request F) → Type 0
   SentIs M stage None = Unit {0}
   SentIs M asking (Some ask_last) = Unit {0}
@@ -57,7 +57,7 @@ module _ {F : Type 0} (s : Setting F) (fit : Fit s) where
   LateIs M ask_last = Unit {0}
   LateIs M (batch b) = PartOf M b
 
-  -- what the producer learns by the answer on the way is so
+  -- what the producer learns by the reply on the way is true
   abbrev pub AnswerIs : ℕ → Stage → Option Answer → Type 0
   AnswerIs M stage None = Unit {0}
   AnswerIs M (knows m) (Some a) = ⊥
@@ -191,7 +191,7 @@ module _ {F : Type 0} (s : Setting F) (fit : Fit s) where
   part_of_sent M (knows m) b h = absurd h
   part_of_sent M (waits m n) b h = h.0
 
-  -- what is known of a batch when it is answered
+  -- what is known of a batch after its reply
   answered : (M : ℕ) (st : Stage) (b : List (Numbered F)) (executes : Bool) (h : SentIs M st (Some (batch b))) (M' : ℕ)
       → (executes ≡ true → length (part_of_sent M st b h).front + length b ≤ M')
       → AnswerIs M' st (Some (if executes then executed else refused))
@@ -200,7 +200,7 @@ module _ {F : Type 0} (s : Setting F) (fit : Fit s) where
   answered M (waits m n) b true h M' r = omega (arith, h.1, r refl)
   answered M (waits m n) b false h M' r = omega arith
 
-  -- the last id says how many are in
+  -- the last id determines how many are in
   told : (w : group.World F) (k : KeptOf w) (st : Stage) (executes : Bool) → SentIs (length k.added) st (Some ask_last)
       → AnswerIs (length k.added) st (Some (if executes then last_is w.last else refused))
   told w k asking true h = omega (arith, k.up)

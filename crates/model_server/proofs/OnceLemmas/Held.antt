@@ -58,7 +58,7 @@ once_after ids (p ∷ ps) h =
     [ true ↦ (λ a. h.0 (left_over ids ps p.id a).0, once_after ids ps h.1) | false ↦ once_after ids ps h.1 ] in
     case (not (listed ids p.id))
 
--- an entry that is handed out again has its id and its consumer
+-- an entry that is redelivered has its id and its consumer
 raised_same : (pick : Id → Bool) (name : Name) (deleted : List Id) (x : Pending)
     → ((raised_one pick name deleted x).id ≡ x.id) × ((raised_one pick name deleted x).consumer ≡ x.consumer)
 raised_same pick name deleted x =
@@ -324,7 +324,7 @@ module _ {F : Type 0} where
       → Held seen ps (with_one cs c (cs c))
   same_held seen ps cs c i = kept_held seen ps cs c (cs c) (λ id m. m) i
 
-  -- a consumer asks for entries
+  -- a consumer requests entries
   own_held : (w : group.World F) (name : Name) (pick : Id → Bool) (cs : Name → Consumer F)
       → Held w.seen w.pending cs
       → Held w.seen (raised pick name w.deleted w.pending)

@@ -30,7 +30,7 @@ use Rattle.model_server.proofs.OnceLemmas.Lasts.{into_file, onto_file, dropped_i
 use Rattle.model_server.proofs.OnceLemmas.Many.{always, always_filled, distinct, each_file_of_log, none_in_two_files}
 
 module _ {F : Type 0} where
-  -- the id stands in one of the files
+  -- the id is in one of the files
   abbrev InSome : (Name → Consumer F) → Id → Type 0
   InSome cs id = (name : Name) × Among id (ids_of (cs name).file)
 

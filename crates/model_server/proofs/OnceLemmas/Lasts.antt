@@ -61,7 +61,7 @@ settled (d ∷ ds) (v ∷ vs) x h =
     ]
 
 module _ {F : Type 0} where
-  -- the entry of this id stands in the file, or was deleted
+  -- the entry of this id is in the file, or was deleted
   abbrev pub Done : List Id → List (Entry F) → Id → Type 0
   Done deleted file id = Among id (ids_of file) ⊎ Among id deleted
 
@@ -262,7 +262,7 @@ module _ {F : Type 0} where
   else_safe w r i (Crash c every keeps ids) h =
       record { lost = i.lost; told = i.told; to_commit = i.to_commit; to_ack = i.to_ack; sent = i.sent }
 
-  -- what is handed out without fields was deleted
+  -- an entry delivered without fields was deleted
   nil_deleted : (deleted : List Id) (es : List (Entry F)) (id : Id) → Among (id, None) (map (as_it_is deleted) es)
       → Among id deleted
   nil_deleted deleted [] id h = absurd h
@@ -414,7 +414,7 @@ module _ {F : Type 0} where
   safe_over s [] w i h = i
   safe_over s (e ∷ es) w i h = safe_over s es (happens s w e) (each_safe s w i e h.0) h.1
 
-  -- two entries of one id are the same, where no id stands twice
+  -- two entries of one id are the same, if no id is twice
   pub same_entry : (es : List (Entry F)) → Once (ids_of es) → (d e : Entry F) → Among d es → Among e es → d.0 ≡ e.0 → d ≡ e
   same_entry [] o d e h k q = absurd h
   same_entry (x ∷ es) o d e (inl p) (inl t) q = sym p ∙ t

@@ -22,7 +22,7 @@ use Rattle.model_server.proofs.OnceLemmas.Write.{calm_else, stays, writes, at_st
 use Rattle.model_server.proofs.OnceLemmas.Held.{HeldIn, holds}
 
 module _ {F : Type 0} where
-  -- of what was handed out nothing is forgotten, and none becomes pending again, whatever happens
+  -- no delivered entry is forgotten, and none becomes pending again, whatever happens
   calm_asked : (name : Name) (n : _) (pick : Id → Bool) (next : Id) (w : World F) → Distinct w.stream → (b : Bool)
       → Calm (if b then asked name n pick next w else w).stream w.stream
   calm_asked name n pick next w o true = calm_served name n pick next w.consumer.machine.phase w.stream o
@@ -100,7 +100,7 @@ module _ {F : Type 0} (s : Setting F) where
       let P : List Id → Type 0 = λ l. Among id l in
       inr (subst P (sym (ids_both c.file c.lines)) (among_left id (ids_of c.file) (ids_of c.lines) h))
 
--- ---- the producer, where nobody else adds
+-- ---- the producer, if there are no other additions
 
 module _ {F : Type 0} (s : Setting F) (fit : Fit s) where
   -- what is so of the log and the producer is so for each consumer

@@ -167,7 +167,7 @@ module _ {F : Type 0} where
     through = λ q. absurd (not_stopped q);
   }
 
-  -- where it does not ask for its own pending entries all that it was given is in its file
+  -- if it does not request its own pending entries, all that it got is in its file
   abbrev pub PhaseIs : Phase → List (Entry F) → Type 0
   PhaseIs (own behind) rest = Unit {0}
   PhaseIs (claiming from) rest = rest ≡ []
@@ -178,7 +178,7 @@ module _ {F : Type 0} where
   any_phase (claiming from) rest h = h
   any_phase (reading rounds) rest h = h
 
-  -- the answer on the way hands out the next of what it was given
+  -- the reply on the way delivers the next of what it got
   pub record First (rest : List (Entry F)) (ds : List (Delivered F)) : Type 0 where
     pub front : List (Entry F)
     pub back : List (Entry F)
@@ -389,7 +389,7 @@ module _ {F : Type 0} where
       follows = tt;
     }
 
-    -- an answer comes
+    -- a reply arrives
     still_within : (ids : List Id) (a : Answer F) (id : Id) → Among id (still ids a) → Among id ids
     still_within ids acknowledged id h = absurd h
     still_within ids (own_pending es) id h = h
@@ -456,7 +456,7 @@ module _ {F : Type 0} where
         took w r vs none l (news es) l.rest [] f (sym (append_nil l.rest))
         (any_phase (after_news r.machine.every r.machine.phase) [] refl)
 
-    -- it asks where all that it did is acknowledged, so what is pending is what it has not handled
+    -- it requests if all that it did is acknowledged, so the pending entries are those that it has not handled
     module _ (w : group.World F) (r : Consumer F) (l : Line w r) (once : Once (ids_of (log_of w)))
         (none : r.lines ≡ []) (clear : (id : Id) → Among id (ids_of r.file) → Among id (pending_ids w.pending) → ⊥) where
       seen_is : w.seen ≡ r.file ++ l.rest

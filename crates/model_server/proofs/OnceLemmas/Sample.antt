@@ -1,4 +1,4 @@
--- A schedule that meets each premise: a batch that comes late, a crash within a commit, and one behind a commit.
+-- A schedule that meets each premise: a batch that arrives late, a crash within a commit, and one after a commit.
 use Rattle.std.proofs.Common.{◌≡◌, refl, ℕ, arith, true, List, [], ◌∷◌, codes}
 use Rattle.std.specs.Fmt.{digits}
 use Rattle.model_server.specs.Group.Worker.{done, stop}
@@ -16,7 +16,7 @@ two = record { records = 7 ∷ 8 ∷ []; base = 3; name = codes "me" }
 abbrev ask : Event ℕ
 ask = Ask 4 (λ id. true) (codes "0-0")
 
--- the producer sends the first record, its connection breaks, it asks again and sends both; the old batch comes first
+-- the producer sends the first record, its connection breaks, it starts over and sends both; the old batch is first
 abbrev filling : List (Event ℕ) → List (Event ℕ)
 filling more =
     Send 0 ∷ Arrive true ∷ Hear ∷ Send 1 ∷ Break ∷ Send 0 ∷ Arrive true ∷ Hear ∷ Send 2 ∷ Arrive_late 0 true ∷ Arrive true ∷ Hear ∷ more
@@ -27,7 +27,7 @@ abbrev reading_one : List (Event ℕ) → List (Event ℕ)
 reading_one more =
     ask ∷ Take [] ∷ ask ∷ Take [] ∷ ask ∷ Take (done ∷ stop ∷ []) ∷ Restart 1 1 0 ∷ more
 
--- it acknowledges that line, is given the other entry again, does it, crashes behind the sync, and acknowledges it
+-- it acknowledges that line, gets the other entry again, does it, crashes after the sync, and acknowledges it
 abbrev reading_other : List (Event ℕ)
 reading_other =
     Acknowledge_now ∷ Take [] ∷ ask ∷ Take (done ∷ []) ∷ Sync ∷ Restart 1 0 0 ∷ Acknowledge_now ∷

@@ -26,7 +26,7 @@ beginning more =
     (ann, ask) ∷ (ann, Take []) ∷ (ann, ask) ∷ (ann, Take []) ∷ (bob, ask) ∷ (bob, Take []) ∷ (bob, ask) ∷
     (bob, Take []) ∷ more
 
--- each reads one entry and commits it; ann crashes behind its commit; both acknowledge
+-- each reads one entry and commits it; ann crashes after its commit; both acknowledge
 abbrev schedule : List (Name × Event ℕ)
 schedule = beginning (
     (ann, ask) ∷ (bob, ask) ∷ (bob, Take (done ∷ [])) ∷ (ann, Take (done ∷ [])) ∷ (ann, Sync) ∷ (bob, Sync) ∷

@@ -1,5 +1,5 @@
 -- Why a consumer does not skip, when they come again, the entries of the last commit of its file, in place of
--- acknowledging them first: after this schedule an id stands in its file twice.
+-- acknowledging them first: after this schedule an id is in its file twice.
 use Rattle.std.proofs.Common.{◌≡◌, refl, inl, inr, subst, ℕ, true, not, List, [], ◌∷◌, ◌++◌, map, filter, length, drop}
 use Rattle.std.proofs.Common.{codes, None}
 use Rattle.std.specs.Fmt.{digits}
@@ -18,7 +18,7 @@ record Skipping : Type 0 where
 abbrev three : Setting ℕ
 three = record { records = 7 ∷ 8 ∷ 9 ∷ []; base = 0; name = codes "me" }
 
--- of the lines that an answer adds it leaves out those of ids that it knows
+-- of the lines that a reply adds it leaves out those of ids that it knows
 abbrev skips : List Id → List Verdict → Consumer ℕ → Consumer ℕ
 skips known vs r = record (takes vs r.answer r) {
   lines = r.lines

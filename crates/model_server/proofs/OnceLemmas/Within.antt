@@ -1,4 +1,4 @@
--- No commit adds more lines than an answer has entries.
+-- No commit adds more lines than a reply has entries.
 use Rattle.std.proofs.Common.{◌≡◌, refl, ap, ◌∙◌, ℕ, zero, suc, ◌+◌, ◌≤◌, arith, Bool, true, false, ◌&&◌, List}
 use Rattle.std.proofs.Common.{[], ◌∷◌, ◌++◌, length, take, Option, Some, None, if◌then◌else◌}
 use Rattle.std.specs.Option.{is_none}
@@ -72,7 +72,7 @@ module _ {F : Type 0} where
       ∙ rest b (second_none (acks_one e.0 e.1 v) (if b then acks_in es vs else []) h)
 
   module _ (number : ℕ) where
-    -- with what an answer on the way hands out, its lines are not more
+    -- with the entries of a reply on the way, its lines are not more
     abbrev Coming : Option (Answer F) → List (Entry F) → Type 0
     Coming None lines = Unit {0}
     Coming (Some a) lines = length lines + length (entries_in a) ≤ number

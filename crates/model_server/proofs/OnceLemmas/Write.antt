@@ -1,4 +1,4 @@
--- No id stands twice in the consumer's file.
+-- No id is twice in the consumer's file.
 use Rattle.std.proofs.Common.{◌≡◌, ◌⊎◌, inl, inr, refl, sym, ap, subst, ◌∙◌, ℕ, ◌+◌, ◌-◌, ◌≤◌, zero, suc, arith, Bool}
 use Rattle.std.proofs.Common.{true, false, not, ◌&&◌, List, [], ◌∷◌, ◌++◌, map, filter, length, take, drop, append_assoc, Option}
 use Rattle.std.proofs.Common.{Some, None, if◌then◌else◌}
@@ -100,7 +100,7 @@ new_ids me [] = refl
 new_ids me (x ∷ es) = ap (λ l. x.0 ∷ l) (new_ids me es)
 
 module _ {F : Type 0} where
-  -- nothing is forgotten of what was handed out, and none of it becomes pending again
+  -- no delivered entry is forgotten, and none of them becomes pending again
   abbrev pub Calm : group.World F → group.World F → Type 0
   Calm v w =
       ((e : Entry F) → Among e w.seen → Among e v.seen)
@@ -206,14 +206,14 @@ module _ {F : Type 0} where
   calm_filled executes w None = calm_still w
   calm_filled executes w (Some r) = calm_request executes w r
 
-  -- what the machine may be sure of while an answer is on the way
+  -- what the machine may be sure of while a reply is on the way
   abbrev pub Ready : group.World F → Consumer F → Answer F → Type 0
   Ready w r acknowledged = (id : Id) → Among id (ids_of r.file) → Among id (pending_ids w.pending) → ⊥
   Ready w r (own_pending es) = r.machine.to_acknowledge ≡ []
   Ready w r (taken_over next es) = r.machine.to_acknowledge ≡ []
   Ready w r (news es) = r.machine.to_acknowledge ≡ []
 
-  -- an answer on the way hands out what is not in the file yet
+  -- a reply on the way delivers what is not in the file yet
   pub record Coming (w : group.World F) (r : Consumer F) (a : Answer F) : Type 0 where
     pub ready : Ready w r a
     pub of_seen : (e : Entry F) → Among (e.0, Some e.1) (entries_in a) → Among e w.seen
@@ -299,7 +299,7 @@ module _ {F : Type 0} where
         either = i.either;
       }
 
-  -- an answer comes
+  -- a reply arrives
   still_held : (w : group.World F) (r : Consumer F) (a : Answer F) → Ready w r a → (id : Id) → Among id (ids_of r.file)
       → Among id (pending_ids w.pending) → Among id r.machine.to_acknowledge → Among id (still r.machine.to_acknowledge a)
   still_held w r acknowledged z id h k m = absurd (z id h k)
@@ -456,7 +456,7 @@ module _ {F : Type 0} where
     either = i.either;
   }
 
-  -- an acknowledgement comes, and its answer is on the way
+  -- an acknowledgement arrives, and its reply is on the way
   acking : (me : Name) (w : World F) → Writes w.stream w.consumer
       → Writes (acknowledges me w).stream (acknowledges me w).consumer
   acking me w i =
@@ -479,7 +479,7 @@ module _ {F : Type 0} where
         either = j.either;
       }
 
-  -- what is asked for where all is acknowledged
+  -- what is requested if all is acknowledged
   picked : (deleted : List Id) (es : List (Entry F)) (e : Entry F) → Among (e.0, Some e.1) (map (as_it_is deleted) es)
       → Among e es
   picked deleted [] e h = absurd h

@@ -94,7 +94,7 @@ pub cut_commit : file_of (run_by forgets_cut_commit
 unfolding digits
 cut_commit = refl
 
--- entries are asked for before the acknowledgement
+-- entries are requested before the acknowledgement
 abbrev asks_early : World ℕ → Event ℕ → World ℕ
 asks_early w (Ask n pick next) =
     if is_none w.consumer.answer && is_empty w.consumer.machine.to_commit then asked two.name n pick next w else w

@@ -1,4 +1,4 @@
--- What was pending for a worker that begins again is handed out to it, and acknowledged.
+-- What was pending for a worker that starts over is redelivered to it, and acknowledged.
 use Rattle.std.proofs.Common.{◌≡◌, ◌⊎◌, inl, inr, refl, sym, ap, subst, ◌∙◌, ℕ, zero, suc, ◌+◌, ◌-◌, ◌*◌, ◌≤◌, arith}
 use Rattle.std.proofs.Common.{Bool, true, false, ◌&&◌, List, [], ◌∷◌, ◌++◌, map, filter, append_assoc, codes, Some}
 use Rattle.std.proofs.Common.{None, if◌then◌else◌}
@@ -67,7 +67,7 @@ module _ {F : Type 0} where
       among_listed x (ids_of (es ++ fs)) (subst P s.is (among_map (λ (e : Entry F). e.0) s.x (es ++ fs)
       (among_left s.x es fs s.within)))
 
-  -- what is handed out and was not deleted is handled
+  -- a delivered entry that was not deleted is handled
   handled_of : (deleted : List Id) (e : Entry F) (es : List (Entry F)) → Among e es → listed deleted e.0 ≡ false
       → Among e (handled_in (map (as_it_is deleted) es) (all_done (map (as_it_is deleted) es)))
   handled_of deleted e [] h k = absurd h
@@ -96,7 +96,7 @@ module _ {F : Type 0} (n : ℕ) (name : Name) (some : 1 ≤ n) (e : Entry F) (ol
   WasHandled deleted handled =
       ((since : List (Entry F)) × (handled ≡ old ++ since) × Among e since) ⊎ (listed deleted e.0 ≡ true)
 
-  -- it is still to be handed out, and so many rounds are left for that
+  -- it is still to be redelivered, and this number of rounds is left for that
   abbrev Waits : Phase → List Id → List Id → List Pending → (seen handled : List (Entry F)) → ℕ → Type 0
   Waits (worker.own id) a c ps seen handled k =
       Among e (behind_id id seen) × (listed (own name ps) e.0 ≡ true) × (listed (a ++ c) e.0 ≡ false) × Grew handled

@@ -75,7 +75,7 @@ module _ {F : Type 0} (n : ℕ) (name : Name) (some : 1 ≤ n) (every : ℕ) (ps
       clash (listed ids x)
       (ap (λ (l : List Id). listed l x) answer_ids ∙ parts.filtered_listed picks seen x is_seen picked) k.0)
 
-  -- what is answered was on the page
+  -- each entry of the reply was on the page
   on_page : (x : Id) → listed ids x ≡ true → page x ≡ true
   unfolding picks
   on_page x h =
@@ -89,7 +89,7 @@ module _ {F : Type 0} (n : ℕ) (name : Name) (some : 1 ≤ n) (every : ℕ) (ps
   costs_one [] = omega arith
   costs_one (x ∷ xs) = omega arith
 
-  -- where none is pending from there on, none is answered
+  -- if none is pending from there on, the reply has none
   costs_none : (xs : List Id) → ((x : Id) → listed xs x ≡ true → page x ≡ true) → how_many all here ≡ 0
       → held_for [] xs ≡ 0
   costs_none [] h z = refl
@@ -126,7 +126,7 @@ module _ {F : Type 0} (n : ℕ) (name : Name) (some : 1 ≤ n) (every : ℕ) (ps
       let y : how_many all here ≡ 0 = omega (arith, z, here_in_seen) in
       ap (pages n) y ∙ measure.no_pages n some)
 
-  -- it comes to its end, and reads
+  -- it reaches the end of the claim, and reads
   at_end : (only : Bool) → nat_lt (how_many all here) (how_many all seen) ≡ only → beyond n all here ≡ []
       → cost + left_reading every 0 later to_come ≤ left_claiming every only these now to_come - 1
   at_end false o e =

@@ -76,7 +76,7 @@ module _ {F : Type 0} (n : ℕ) (name : Name) (some : 1 ≤ n) where
       round n name w ≡ run (es ++ events_of_round n name w) empty_world
   round_reached es = sym (run_more es (events_of_round n name (run es empty_world)) empty_world)
 
-  -- so after so many rounds none is left
+  -- so after this number of rounds none is left
   none_left : (k : ℕ) (es : List (Event F)) →
       let w : World F = run es empty_world in
       measure_in w ≤ k

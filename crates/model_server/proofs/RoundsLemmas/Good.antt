@@ -100,7 +100,7 @@ module _ {F : Type 0} where
   abbrev IsNone : Entry F → Type 0
   IsNone e = e.0 ≡ codes "0-0" → ⊥
 
-  -- what is pending was handed out
+  -- each pending entry was delivered
   abbrev pub WasHandedOut : List Pending → List (Entry F) → Type 0
   WasHandedOut pending seen = (x : Id) → Among x (pending_ids pending) → Among x (ids_of seen)
 

@@ -19,7 +19,7 @@ use Rattle.model_server.proofs.RoundsLemmas.Parts as parts
 use Rattle.model_server.proofs.RoundsLemmas.Parts.{ids_in}
 
 module _ {F : Type 0} (n : ℕ) (name : Name) where
-  -- what is left, where it stands here and this is pending
+  -- what is left, if it is at this point and this is pending
   abbrev pub left : ℕ → Phase → (all mine : Id → Bool) (seen fresh : List (Entry F)) → ℕ
   left every (worker.own id) all mine seen fresh =
       left_own every (pages n (how_many mine (behind_id id seen))) (pages n (how_many all seen)) (pages n (length fresh))
@@ -103,7 +103,7 @@ module _ {F : Type 0} (n : ℕ) (name : Name) where
       ∙ ap (λ b. left_claiming every b (pages n (how_many all seen)) (pages n (how_many all seen)) (pages n (length fresh)))
       (not_less (how_many all seen) (how_many all seen) (omega arith))
 
-  -- the measure after an answer, where its entries are gone through and done
+  -- the measure after a reply, if all its entries are handled and done
   pub gone_through : (every : ℕ) (next : Phase) (ds : List (Delivered F)) (ps : List Pending) (seen fresh : List (Entry F))
       → measure_of every (phase_at (ending ds (all_done ds)) next) [] (acks_in ds (all_done ds)) ps seen fresh
       ≡ measure_of every next [] (ids_in ds) ps seen fresh

@@ -214,7 +214,7 @@ module _ {F : Type 0} where
       ] in
       case (p e.0) refl k
 
-  -- where there is one beyond a page, the page is whole
+  -- if there is one beyond a page, the page is full
   pub beyond_some : (n : ℕ) (p : Id → Bool) (es : List (Entry F)) (y : Entry F) (ys : List (Entry F))
       → beyond n p es ≡ y ∷ ys → n + 1 ≤ how_many p es
   beyond_some n p [] y ys h = absurd (let t : [] ≡ y ∷ ys = h in cc)
@@ -323,7 +323,7 @@ module _ {F : Type 0} where
       case (listed (ids_of es) id)
       (not_true (listed (ids_of es) id) (λ k. clash (listed (ids_of (e ∷ es)) id) (listed_more e.0 id (ids_of es) k) h))
 
-  -- behind one of those behind an id there are no others
+  -- after one of those after an id there are no others
   pub behind_further : (id x : Id) (es : List (Entry F)) → listed (ids_of (behind_id id es)) x ≡ true
       → IsEnd (behind_id x es) (behind_id id es)
   behind_further id x [] h = refl
@@ -387,7 +387,7 @@ module _ {F : Type 0} where
   behind_in_end x fs (e ∷ es) (inr h) k =
       behind_skips x e es (end_listed fs es x h k) ∙ behind_in_end x fs es h k
 
-  -- what is beyond a page lies behind each entry on it
+  -- what is beyond a page is after each entry on it
   pub beyond_behind : (n : ℕ) (p : Id → Bool) (es : List (Entry F)) (x : Id) → AreDistinct es
       → listed (ids_of (first_of n p es)) x ≡ true → IsEnd (beyond n p es) (behind_id x es)
   beyond_behind n p [] x d h = refl

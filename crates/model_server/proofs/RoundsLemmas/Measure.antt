@@ -1,4 +1,4 @@
--- A number that falls with each round, by where the worker stands and how many pages are left.
+-- A number that decreases with each round, by the phase of the worker and the number of pages left.
 use Rattle.std.proofs.Common.{◌≡◌, inl, inr, refl, ap, ◌∙◌, ℕ, zero, suc, ◌+◌, ◌-◌, ◌*◌, ◌/◌, ◌≤◌, arith, Bool, true, false}
 use Rattle.std.proofs.Math.Nat.{add-div_right, div-eq_of_lt, div-mul-le_self}
 use Rattle.std.proofs.lemmas.Bool.{cases_lt}
@@ -21,11 +21,11 @@ left_claiming every false these all fresh = unless_drained all fresh (claims_for
 left_claiming every true these all fresh =
     unless_drained all fresh (claims_for these + reads_before every + claims_for all + reads_for every fresh)
 
--- the reads before it claims, after so many rounds of them
+-- the reads before it claims, after this number of rounds of them
 abbrev pub reads_left : (every rounds : ℕ) → ℕ
 reads_left every rounds = 1 + (every - (rounds + 1))
 
--- so many pages of new entries, if so many reads were made
+-- this number of pages of new entries, after this number of reads
 abbrev pub reads_at : (every rounds pages : ℕ) → ℕ
 reads_at every rounds zero = 0
 reads_at every rounds (suc pages) =
@@ -103,7 +103,7 @@ at_less every r (suc a) (suc b) l =
     let d : (m + a) / e ≤ (m + b) / e = div_less e (m + a) (m + b) (omega arith) (omega (arith, l)) in
     omega (arith, l, d)
 
--- wherever it stands, one more at most
+-- in any phase, one more at most
 pub at_near : (every r f : ℕ) → reads_at every r f ≤ reads_for every f + 1
 at_near every r zero = omega arith
 at_near every r (suc f) =
@@ -163,7 +163,7 @@ own_ends every o zero (suc f) these (suc k2) m = omega arith
 own_ends every o (suc k) f these k2 m =
     omega (arith, at_most k2 f (claims_for k2 + reads_for every f), claims_less k2 (suc k) m)
 
--- a claim goes on behind a whole page
+-- a claim continues after a full page
 pub claim_falls : (every c these k f these2 k2 : ℕ) → c ≤ 1 → 2 ≤ k → these2 + 1 ≤ k → k2 + 1 ≤ k
     → c + left_claiming every false these2 k2 f ≤ left_claiming every false these k f - 1
 claim_falls every c these zero f these2 k2 d h l m = omega arith
@@ -190,7 +190,7 @@ part_falls every c (suc these) (suc k) f (suc these2) k2 true d h g l m =
 part_falls every c (suc these) (suc k) f these2 k2 false d h g l m =
     omega (arith, at_most k2 f (claims_for k2 + reads_for every f), claims_less k2 (suc k) m)
 
--- or it comes to its end
+-- or it reaches its end
 pub claim_ends : (every c these k f : ℕ) → c ≤ 1 → (k ≡ 0 → c ≡ 0)
     → c + left_reading every 0 0 f ≤ left_claiming every false these k f - 1
 claim_ends every c these zero zero d e = omega (arith, e refl)

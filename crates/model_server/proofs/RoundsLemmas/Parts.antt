@@ -181,7 +181,7 @@ claimed_is_there more pick name deleted (p ∷ ps) x h k =
     ]
 
 module _ {F : Type 0} where
-  -- the ids of what is handed out
+  -- the ids of the delivered entries
   abbrev pub ids_in : List (Delivered F) → List Id
   ids_in ds = map (λ d. d.0) ds
 

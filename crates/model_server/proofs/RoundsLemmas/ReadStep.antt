@@ -47,7 +47,7 @@ module _ {F : Type 0} (n : ℕ) (name : Name) (some : 1 ≤ n) (every : ℕ) (ps
   abbrev before : ℕ
   before = measure_of n name every (reading rounds) [] [] ps seen fresh
 
-  -- what is pending and was not just handed out was pending before
+  -- a pending entry that was not just delivered was pending before
   fewer : (x : Id) → still x ≡ true → all x ≡ true
   fewer x h =
       let k = held_not ids more x h in

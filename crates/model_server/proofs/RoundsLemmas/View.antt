@@ -9,7 +9,7 @@ use Rattle.model_server.specs.Rounds.Page.{own_page, claim_page, next_claim}
 use Rattle.model_server.specs.Rounds.Rounds.{all_done, commit_of, asks, commit_in, asked_in, round}
 use Rattle.model_server.proofs.RoundsLemmas.Lists.{same_id}
 
--- the worker, and of the server what it may hand out
+-- the worker, and the entries that the server may deliver
 pub record View (F : Type 0) : Type 0 where
   pub machine : Machine
   pub pending : List Pending

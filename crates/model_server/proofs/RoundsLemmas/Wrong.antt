@@ -7,16 +7,16 @@ use Rattle.model_server.specs.Group.World.{World, Event, Acknowledge, Claim, Com
 use Rattle.model_server.specs.Rounds.Rounds.{all_done, claim_pick, commit_in, asks, rounds}
 use Rattle.model_server.proofs.RoundsLemmas.Sample.{ann, before}
 
--- a page of none hands out nothing
+-- a page of no entries delivers nothing
 pub none_in_a_page : length (pending_ids (rounds 7 0 ann before).pending) ≡ 2
 unfolding digits
 none_in_a_page = refl
 
--- what a worker asks, by what is to be acknowledged and by its phase
+-- what a worker requests, by what is to be acknowledged and by its phase
 abbrev Asks : Type 0
 Asks = World ℕ → List Id → Phase → List (Event ℕ)
 
--- so many rounds of ann, if it asks this
+-- this number of rounds of ann, if it requests this
 abbrev rounds_by : Asks → ℕ → World ℕ → World ℕ
 rounds_by ask zero w = w
 rounds_by ask (suc so_many) w =
@@ -47,7 +47,7 @@ pub both_are_pending : length (pending_ids (rounds_by loses_acks 7 before).pendi
 unfolding digits
 both_are_pending = refl
 
--- the server says after each page that the claim is at its end
+-- the server reports after each page that the claim is at its end
 abbrev ends_early : Asks
 ends_early w (i ∷ ids) phase = asks 1 ann w (i ∷ ids) phase
 ends_early w [] (own id) = asks 1 ann w [] (own id)

@@ -15,7 +15,7 @@ use Rattle.model_workers.specs.Failover.Keeps.{EntriesLookUp, looked_too}
 abbrev over : (lines file : List (Entry Fields)) → Doings
 over lines file = record { loose = lines; committed = file }
 
--- one id more, wherever it stands
+-- one id more, wherever it is
 last_listed : (ids : List Id) (x id : Id) → listed (ids ++ x ∷ []) id ≡ listed (x ∷ ids) id
 last_listed [] x id = refl
 last_listed (y ∷ ids) x id =

@@ -85,7 +85,7 @@ whichever : (P : Consumer Fields → Type 0) (b : Bool) (u v : once.World Fields
 whichever P true u v h k = h
 whichever P false u v h k = k
 
--- enough replicas confirm a question that comes, if it is to be confirmed
+-- enough replicas confirm a request that arrives, if it is to be confirmed
 abbrev pub IsEnough : Option Wait → Fate → Type 0
 IsEnough None fate = Unit {0}
 IsEnough (Some w) (comes pick next said) = is_confirmed w.replicas said ≡ true
@@ -224,7 +224,7 @@ module _ {R : Type 0} (k : Keeps R) where
         (as_consumer (at_phase m q) c i.0.machine i.1)
         (commits_it calm r m.every m.phase q m.to_commit m.to_acknowledge c w i.0.same i.0.history)
 
-    -- ---- a question
+    -- ---- a request
 
     asked_keeps : (calm : Bool) (m : Machine) (r : R) (w : once.World Fields) (n : ℕ) (pick : Id → Bool) (next : Id)
         → Is calm m r w.consumer → Is calm m r (once.happens s w (once.Ask n pick next)).consumer

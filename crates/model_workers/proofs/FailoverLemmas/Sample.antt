@@ -68,7 +68,7 @@ abbrev earlier : List (Event Fields)
 earlier = Plain (Send 0) ∷ Arrive_waits true 1 1 ∷ Plain Hear ∷ Plain (Send 1) ∷ Arrive_waits true 1 1 ∷ Plain Hear ∷
     Plain (Else (Read (codes "ann") 1)) ∷ []
 
--- the worker asks for its own pending entries, the question comes to the server, and so many replicas confirm it
+-- the worker requests its own pending entries, the request arrives, and this number of replicas confirm it
 abbrev asks_own : {calm : Bool} → ℕ → Meantime calm
 asks_own said = record {
   before = [];
@@ -129,7 +129,7 @@ module _ (settings : Settings) (key : string_bytes settings.key ≡ codes "s") w
     abbrev one_round : List (Event Fields)
     one_round = events ++ round_events keeps_entries one (Some wait) settings old new (new_one settings) x q p (asks_own 1) r
 
-    -- a round in which it hears this, and its handler does the entry
+    -- a round in which it gets this, and its handler does the entry
     pub round_runs : (first : Worker) → IsStarted settings [] first
         → Runs keeps_entries one (Some wait) settings one_round x
     round_runs first s =

@@ -80,9 +80,9 @@ runs_are_events k law s wait settings events v (restarts set with_set before y x
     (sym (run_on s before (until ++ start_events k with_set c x t) first_world ∙ run_on s until (start_events k with_set c x t) there))
     (start_is k law s with_set (run s until there) x t)
 
--- ---- WAIT comes with each question for entries
+-- ---- a WAIT follows each request for entries
 
--- this is no question of the consumer for entries without WAIT
+-- this is no request of the consumer for entries without WAIT
 abbrev AskWaits : Event Fields → Type 0
 AskWaits (Plain (once.Ask n pick next)) = ⊥
 AskWaits e = Unit {0}
@@ -271,7 +271,7 @@ producer_on : (es more : List (Event Fields)) → ProducerAlwaysWaits es → Pro
 producer_on [] more h j = j
 producer_on (e ∷ es) more h j = (h.0, producer_on es more h.1 j)
 
--- a WAIT comes with each request and each question for entries
+-- a WAIT follows each request of the producer and each request for entries
 both_waits : {R : Type 0} (k : Keeps R) (s : Setting Fields) (w : Wait) (settings : Settings)
     (earlier later : List (Event Fields)) (v : Standing R) → Runs k s (Some w) settings (earlier ++ later) v
     → NobodyElse earlier → NobodyElse later → AllWait earlier × AllWait later

@@ -17,11 +17,11 @@ use Rattle.model_workers.specs.Failover.Rounds.{IsConsumer}
 abbrev one : Setting Fields
 one = record { records = [] ∷ []; base = 0; name = codes "ann" }
 
--- a question that one replica is to confirm, and so many do
+-- a request that one replica has to confirm, and this number does
 abbrev ask : ℕ → Event Fields
 ask said = Ask_waits 1 (λ id. true) (codes "0-0") 1 said
 
--- nothing is pending for the worker, and its next question, for a claim, is not confirmed
+-- nothing is pending for the worker, and its next request, a claim, is not confirmed
 abbrev claims_unconfirmed : List (Event Fields)
 claims_unconfirmed = ask 1 ∷ Plain (Take []) ∷ ask 0 ∷ []
 

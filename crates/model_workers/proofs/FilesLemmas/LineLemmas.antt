@@ -156,7 +156,7 @@ module _ (form : Form) where
             record { e = more.e; within = inr more.within; is = more.is })
       ]
 
-  -- the line tells its entry
+  -- the line determines its entry
   pub entry_told : (es : List Entry) (e : Entry) → IsLineIn (form.line e) (lines form es) → Among e es
   entry_told es e h =
       let t = told es (form.line e) h.0 h.1 h.2 h.3 h.4 in

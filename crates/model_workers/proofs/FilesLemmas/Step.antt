@@ -109,7 +109,7 @@ pub at_one : {A : Type 0} (each : Name → A) (name : Name) (a : A) → with_one
 at_one each name a =
     ap (λ b. if b then a else each name) ((bytes_eq-Decides name name).1 refl)
 
--- what is said of each is still so, if it is so of the one
+-- the statement about each is still true, if it is true of the one
 pub at_each : {A : Type 0} (each : Name → A) (name : Name) (a : A) (P : Name → A → Type 0)
     → ((other : Name) → P other (each other)) → P name a → (other : Name) → P other (with_one each name a other)
 at_each each name a P old new other =

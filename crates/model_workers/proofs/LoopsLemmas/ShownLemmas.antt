@@ -60,14 +60,14 @@ nothing_came l = record {
   );
 }
 
--- where a worker stands
+-- the state of a worker
 abbrev standing : {H : Type 0} → Machine → GroupState → Asked → H → Standing H
 standing m g a h = record { machine = m; group = g; asked = a; history = h }
 
 module _ {R S : Type 0} (vR : R → List ℕ × Pairs → Verdict → R) (cR : R → R) (vS : S → List ℕ × Pairs → Verdict → S)
     (cS : S → S) (f : R → S) (verdicts_map : (r : R) (e : List ℕ × Pairs) (v : Verdict) → f (vR r e v) ≡ vS (f r) e v)
     (commits_map : (r : R) → f (cR r) ≡ cS (f r)) (settings : Settings) where
-  -- where it stands, seen by the picture of its history
+  -- its state, seen by the picture of its history
   abbrev seen : Standing R → Standing S
   seen w = standing w.machine w.group w.asked (f w.history)
 
@@ -183,11 +183,11 @@ module _ {R S : Type 0} (vR : R → List ℕ × Pairs → Verdict → R) (cR : R
 
 module _ {H P : Type 0} (vH : H → List ℕ × Pairs → Verdict → H) (cH : H → H) (shown : P → Doings → H)
     (pic : IsPicture shown vH cH) where
-  -- a picture of where a worker stands
+  -- a picture of the state of a worker
   abbrev drawn_by : P → Standing Doings → Standing H
   drawn_by p v = standing v.machine v.group v.asked (shown p v.history)
 
-  -- what is kept as a worker asks
+  -- what is kept as a worker sends its request
   pub commit_of : (settings : Settings) (p : P) (m : Machine) (d : Doings)
       → history_at_request cH m (shown p d) ≡ shown p (history_at_request committed_too m d)
   commit_of settings p m d =
@@ -294,7 +294,7 @@ module _ {H P : Type 0} (vH : H → List ℕ × Pairs → Verdict → H) (cH : H
       → Turned vH cH settings old new w x asked Stopped → Leads shown (Stops settings) old new w x
   round_stops settings old new w x asked h = stops_besides settings old new new w x asked h (nothing new)
 
-  -- it fails, and so much of what went out is left
+  -- it fails, and this part of what was sent is left
   fails_leaving : (settings : Settings) (old k new : Link) (w x : Standing H) (e : RunError)
       → Fails vH cH settings old k w x e
       → ((d : Doings) → IsLeft settings k new (with_doings w d)) → Leads shown (Stops settings) old new w x
@@ -382,7 +382,7 @@ module _ {H P : Type 0} (vH : H → List ℕ × Pairs → Verdict → H) (cH : H
   unanswered_fails settings old new w x e f =
       round_fails settings old new w x e (f.0, failing vH cH settings old new w f.0 e f.1, f.2)
 
-  -- it asked, and its reply was passed over: for the worker it is as if none had come
+  -- it sent its request, and its reply was skipped: for the worker it is as if none had arrived
   pub passed_over : (settings : Settings) (old m new : Link) (w y x : Standing H) (a : wire.Answer)
       → IsAsked cH settings old m w y a → x ≡ record y { machine = begins_again y.machine }
       → Looks m new ⊎ BreaksLooking m new → Leads shown (Stops settings) old new w x

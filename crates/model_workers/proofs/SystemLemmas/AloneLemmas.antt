@@ -34,7 +34,7 @@ use Rattle.model_workers.specs.System.Once.{failure_events, Moment, between, wit
 use Rattle.model_workers.specs.System.Once.{restarts, standing_at, start_events}
 use Rattle.model_workers.proofs.SystemLemmas.OnceLemmas.{Is, as_is, before_is, runs_are_events}
 
--- what a question with COUNT 1 hands out again
+-- the entries that a request with COUNT 1 redelivers
 asked_one : (settings : Settings) → settings.one_at_a_time ≡ true → (name : Name) (pick : Id → Bool) (next : Id)
     (phase : Phase) (w : group.World Fields)
     → length (entries_in (answer_for name (count_asked settings phase) pick next phase w)) ≤ count_asked settings phase
@@ -47,7 +47,7 @@ asked_one settings one name pick next (claiming from) w le =
     subst (λ (k : ℕ). length (asked_again name pick next (claiming from) w) ≤ k) (ap n one) le
 asked_one settings one name pick next (reading rounds) w le = omega arith
 
--- where it asks, or does not
+-- if it sends a request, or does not
 if_idle : (name : Name) (pick : Id → Bool) (next : Id) (phase : Phase) (w : group.World Fields)
     → length (asked_again name pick next phase w) ≤ 1 → (b : Bool)
     → length (if b then asked_again name pick next phase w else []) ≤ 1
@@ -96,7 +96,7 @@ module _ (s : Setting Fields) where
   commits_one true w = (omega arith, tt)
   commits_one false w = tt
 
-  -- a question
+  -- a request
   question_one : (settings : Settings) → settings.one_at_a_time ≡ true → (u : Machine) (fate : Fate) (acks : List Id)
       (w : World Fields) → w.consumer.machine ≡ u
       → AllKeepToCount s (question_events (count_asked settings u.phase) fate acks) w
@@ -138,7 +138,7 @@ module _ (s : Setting Fields) where
         (keep_first asked_then m.later asked rest))
         (others_one m.later (run s asked_then asked) m.later_others (keep_rest asked_then m.later asked rest)))
 
-    -- with events after it that hand out nothing
+    -- with events after it that deliver nothing
     then_one : (more : List (Event Fields)) → ((x : World Fields) → OneAtATime s more x)
         → AllKeepToCount s (until_replied settings v m ++ more) w
         → OneAtATime s (until_replied settings v m ++ more) w

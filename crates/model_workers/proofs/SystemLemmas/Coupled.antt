@@ -1,4 +1,4 @@
--- Each move of a worker or of the server is some events of `model_workers::files`, and leaves the desks as they are.
+-- Each move of a worker or of the server is some events of `model_workers::files`, and does not change the queues.
 use Rattle.std.proofs.Common.{◌≡◌, inl, inr, refl, sym, ap, subst, ◌∙◌, ℕ, Bool, true, false, List, [], ◌∷◌, ◌++◌, filter}
 use Rattle.std.proofs.Common.{append-nil, Option, Some, None, if◌then◌else◌}
 use Rattle.std.proofs.lemmas.Slice.Eq.{bytes_eq-Decides}
@@ -42,7 +42,7 @@ both_one fs gs q p name a b old new n =
     = λ t. elim t as (λ t. q (if t then a else fs n) ≡ p (if t then b else gs n)) [ true ↦ new | false ↦ old n ] in
     case (bytes_eq name n)
 
--- one of the two changes, and what is said of it stays
+-- one of the two changes, and the statement about it is still true
 one_side : {A B : Type 0} (fs : Name → A) (gs : Name → B) (p : B → A) (name : Name) (b : B)
     → ((n : Name) → fs n ≡ p (gs n)) → fs name ≡ p b → (n : Name) → fs n ≡ p (with_one gs name b n)
 one_side fs gs p name b old new n =
@@ -224,13 +224,13 @@ module _ (form : Form) where
         };
       }
 
-  -- it hears this
+  -- it gets this
   abbrev pub having_told : System → Name → GroupState → ℕ → Option Heard → List Verdict → System
   having_told s name state which o vs = record (with_worker s name (having_heard done_too (s.workers name) state o vs)) {
     server = record s.server { replies = still_coming s.server.replies which o };
   }
 
-  -- nothing that the machine hears
+  -- nothing that the machine uses
   unmoved : (s : System) (f : Files) → Coupled s f → (name : Name) (x : Standing Doings)
       → x.machine ≡ (s.workers name).machine → x.history ≡ (s.workers name).history → Follows (with_worker s name x) f
   unmoved s f c name x machine history = record {

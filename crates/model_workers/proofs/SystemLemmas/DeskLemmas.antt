@@ -1,4 +1,4 @@
--- What a desk of dead letters does in the code, as moves.
+-- The operations of a queue of dead letters in the code, as moves.
 use Rattle.std.proofs.Common.{◌≡◌, ◌≢◌, inl, inr, refl, sym, ap, subst, ◌∙◌, ℕ, Bool, true, false, List, [], ◌∷◌, ◌++◌}
 use Rattle.std.proofs.Common.{if◌then◌else◌}
 use Rattle.std.proofs.lemmas.Slice.Eq.{bytes_eq-Decides}
@@ -19,7 +19,7 @@ use Rattle.model_workers.specs.System.Desks.{StartsWithANewDesk, IsOfDesk, AreOf
 use Rattle.worker.specs.Letters.{letter_for}
 use Rattle.model_workers.specs.System.Desks.{moves_after}
 
--- ---- what a desk asks
+-- ---- what a queue sends
 
 asks_of : (names : Names) (ls : List (Id × List ℕ)) (es : List Entry) (added now : Bool) → AreLetters names.2 ls es
     → added ≡ now
@@ -118,7 +118,7 @@ module _ (form : Form) (name : Name) where
   elsewhere s (Settles other which) h = other_desk s.desks other _ name h
   elsewhere s (Restarts other settings torn ids before) h = other_desk s.desks other _ name h
 
-  -- the same of two systems with the same desk
+  -- the same of two systems with the same queue
   at_its : (s t : System) (other : Name) (change : Desk → Desk) → other ≡ name → s.desks name ≡ t.desks name
       → with_one s.desks other (change (s.desks other)) name ≡ with_one t.desks other (change (t.desks other)) name
   at_its s t other change is same =

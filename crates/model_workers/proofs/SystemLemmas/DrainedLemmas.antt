@@ -1,4 +1,4 @@
--- The rounds of a worker's code are rounds of `model_server::rounds`, if the server hands out its page.
+-- The rounds of a worker's code are rounds of `model_server::rounds`, if the server delivers its page.
 use Rattle.std.proofs.Common.{◌≡◌, refl, sym, ap, ◌∙◌, ℕ, zero, suc, Bool, not, ◌&&◌, List, [], ◌∷◌, Some, if◌then◌else◌}
 use Rattle.model_server.specs.Group.Worker.{Id, Verdict, Machine, Answer, Phase, own, claiming, reading, entries_in, after}
 use Rattle.model_server.specs.Group.Worker.{after_commit}
@@ -23,7 +23,7 @@ committed_seen [] [] v = refl
 committed_seen [] (i ∷ ids) v = refl
 committed_seen (i ∷ ids) to_commit v = refl
 
--- the machine that takes this answer, where all is done
+-- the machine after this reply, if all is done
 abbrev taking : Machine → Answer Fields → Machine
 taking m a = after m a (all_done (entries_in a))
 

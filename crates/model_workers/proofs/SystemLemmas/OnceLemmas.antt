@@ -46,7 +46,7 @@ use Rattle.model_workers.specs.System.Once.{Runs, begins, waits, turns, fails, r
 use Rattle.model_workers.specs.System.Once.{session_events, RunsAreEvents, StartsReadEnough}
 use Rattle.model_workers.specs.System.Once.{CodeWritesOnce, CodeWritesTheLog, CodeKeepsEach, CodeWritesInOrder, CodeWritesTheRecords}
 
--- the consumer with this machine and this answer on the way to it, and with what its handler did
+-- the consumer with this machine and this reply on the way to it, and with what its handler did
 pub record Is (m : Machine) (a : Option (Answer Fields)) (d : Doings) (c : Consumer Fields) : Type 0 where
   pub machine : c.machine ≡ m
   pub answer : c.answer ≡ a
@@ -121,9 +121,9 @@ module _ (s : Setting Fields) where
       (consumer_of m None d w.consumer.last_commit) (as_consumer m None d w.consumer i)
       (commits_it d w.consumer.last_commit m.every m.phase m.to_commit m.to_acknowledge w)
 
-  -- ---- a question
+  -- ---- a request
 
-  -- it asks for entries only if all that it did is committed
+  -- it requests entries only if all that it did is committed
   abbrev Ready : (to_commit to_acknowledge : List Id) → Type 0
   Ready [] acks = Unit {0}
   Ready (i ∷ ids) [] = ⊥
@@ -251,7 +251,7 @@ module _ (s : Setting Fields) where
     abbrev until : List (Event Fields)
     until = until_replied settings v m
 
-    -- what was asked is not taken
+    -- the request is not used
     broke_off : begins_again now.machine ≡ begins_again y.machine → now.history ≡ y.history
         → Is (begins_again y.machine) None y.history (run s (until ++ Reconnect ∷ []) w).consumer
     broke_off machine history =
@@ -340,7 +340,7 @@ is_one : (v x : Standing Doings) (c : Consumer Fields) → x ≡ v → Is v.mach
 is_one v x c same i = subst (λ (y : Standing Doings). IsConsumer y c) (sym same)
     (record { machine = i.machine; answer = i.answer; lines = i.lines; file = i.file })
 
--- a turn in which the reply is one to its question
+-- a turn in which the reply is one to its request
 turn_is : (s : Setting Fields) (w : World Fields) (settings : Settings) (v : Standing Doings) (m : Meantime) (t : Turn)
     (p : Progress) → EndsBy (hears settings (asking committed_too settings v).asked t.answer) t.verdicts p
     → IsConsumer v w.consumer → HearsTheAnswer settings v m s w t.answer

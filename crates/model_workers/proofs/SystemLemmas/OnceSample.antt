@@ -86,7 +86,7 @@ module _ (settings : Settings) (key : string_bytes settings.key ≡ codes "s") w
   abbrev new_one : Standing Doings
   new_one = started_with settings [] []
 
-  -- the worker asks for its own pending entries, and the question comes to the server
+  -- the worker requests its own pending entries, and the request arrives at the server
   abbrev asks_own : Meantime
   asks_own = record {
     earlier = [];
@@ -113,7 +113,7 @@ module _ (settings : Settings) (key : string_bytes settings.key ≡ codes "s") w
     abbrev one_round : List (Event Fields)
     one_round = before ++ round_events settings new_one asks_own t.turn.verdicts
 
-    -- a round in which it hears this, and its handler does the entry
+    -- a round in which it gets this, and its handler does the entry
     round_runs : (first : Worker) → IsStarted settings [] first → Runs one settings one_round x
     round_runs first s =
         rounds_run one settings before old new new_one x q p asks_own t

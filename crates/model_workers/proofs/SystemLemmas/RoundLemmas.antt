@@ -89,7 +89,7 @@ module _ (form : Form) (name : Name) (settings : Settings) where
       let t : System = moves form s (system.Commits name) in
       at_one t.workers name (waiting settings (t.workers name)) ∙ ap (λ w. waiting settings w) (has_committed s)
 
-  -- after it heard a reply
+  -- after it got a reply
   has_heard : (s : System) (others : List Move) (which : ℕ) (reply : wire.Answer) (vs : List Verdict)
       → AreOthers name others
       → (run form (round_of name settings others which (record { answer = reply; verdicts = vs })) s).workers name
@@ -140,7 +140,7 @@ module _ (form : Form) (name : Name) (settings : Settings) where
     abbrev asking_now : Standing Doings
     asking_now = asking committed_too settings was
 
-    -- it asked, and then its round failed
+    -- it sent its request, and then its round failed
     broke_off : begins_again asking_now.machine ≡ begins_again y.machine → asking_now.history ≡ y.history
         → Led s (again y)
     broke_off machine history = (
@@ -150,7 +150,7 @@ module _ (form : Form) (name : Name) (settings : Settings) where
           machine history,
     )
 
-    -- it asked, and no reply came
+    -- it sent its request, and no reply arrived
     no_reply : y ≡ asking_now → Led s (again y)
     no_reply is = broke_off (ap (λ (v : Standing Doings). begins_again v.machine) (sym is))
         (ap (λ (v : Standing Doings). v.history) (sym is))

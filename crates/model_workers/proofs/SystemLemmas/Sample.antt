@@ -1,4 +1,4 @@
--- Moves that meet the premises: a worker hears the reply that the server gave it, with an entry in it. It commits that,
+-- Moves that meet the premises: a worker gets the reply that the server sent, with an entry in it. It commits that,
 -- crashes, and reads its line back.
 use Rattle.std.proofs.Common.{◌≡◌, inl, inr, refl, sym, ap, subst, ◌∙◌, ℕ, true, List, [], ◌∷◌, ◌++◌, codes, string_bytes}
 use Rattle.std.proofs.Common.{Option, Some}
@@ -55,7 +55,7 @@ module _ (settings : Settings) (key : string_bytes settings.key ≡ codes "s") (
   it_hears : hears settings asked.First (wire.value sent) ≡ entry_told
   it_hears = ap (λ k. says k asked.First sent) key ∙ it_says
 
-  -- an entry is added and read, and the reply is lost; then ann asks for what is pending for it, and the reply is sent
+  -- an entry is added and read, and the reply is lost; then ann requests its pending entries, and the reply is sent
   abbrev moves_before : List Move
   moves_before =
       Serves (Append (1, 0) fields) ∷ Serves (Read ann 1) ∷ Sends ann settings ∷ Serves (Reread ann (λ id. true)) ∷ []
@@ -70,7 +70,7 @@ module _ (settings : Settings) (key : string_bytes settings.key ≡ codes "s") (
       let P : Option Heard → Type 0 = λ o. IsReplyTo s ann 0 o in
       (tt, (tt, (tt, (tt, (subst P (sym it_hears) refl, (tt, (tt, (tt, tt))))))))
 
-  -- it hears this, and commits
+  -- it gets this, and commits
   abbrev hears_and_commits : Option Heard → System
   hears_and_commits o =
       let s : System = run form moves_before (first_system before) in
@@ -119,7 +119,7 @@ module _ (settings : Settings) (key : string_bytes settings.key ≡ codes "s") (
         has_it torn,
       )
 
-  -- a page that was read before, and the worker that asks for it first
+  -- a page that was read before, and the worker that requests it first
   abbrev read_before : World Fields
   read_before = group.run (Append (1, 0) fields ∷ Read ann 1 ∷ []) empty_world
 

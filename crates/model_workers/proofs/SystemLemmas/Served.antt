@@ -1,4 +1,4 @@
--- What the server does is what `model_server::group` says, and changes no worker.
+-- What the server does follows `model_server::group`, and changes no worker.
 use Rattle.std.proofs.Common.{◌≡◌, refl, ℕ, Bool, true, false, ◌&&◌, List, [], ◌∷◌, ◌++◌, Option, Some, None}
 use Rattle.std.proofs.Common.{if◌then◌else◌}
 use Rattle.model_server.specs.Group.Worker.{Id}

@@ -23,7 +23,7 @@ use Rattle.model_workers.proofs.SystemLemmas.Logged.{log_in, run_last, same_log}
 use Rattle.model_workers.proofs.SystemLemmas.Coupled.{Coupled, Follows, Added, FirstIsAdded}
 use Rattle.model_workers.proofs.SystemLemmas.Coupled as coupled
 
--- ---- what waits at a desk
+-- ---- what waits in a queue
 
 first_waits : (es : List Entry) (e : Entry) → Among e (first es) → Among e es
 first_waits [] e h = h
@@ -116,7 +116,7 @@ module _ (form : Form) where
     coupled = led.coupled;
   }
 
-  -- ---- the moves of a desk
+  -- ---- the moves of a queue
 
   abbrev without : Files → ℕ → Files
   without f which = record f { stream = record f.stream { replies = but f.stream.replies which } }

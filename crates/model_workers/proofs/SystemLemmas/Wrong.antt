@@ -1,4 +1,4 @@
--- Schedules that refute the wrong definitions of planted/: after each, an entry is not kept. Before them, one of a desk that
+-- Schedules that refute the wrong definitions of planted/: after each, an entry is not kept. First, one of a queue that
 -- meets the premise.
 use Rattle.std.proofs.Common.{◌≡◌, inl, inr, refl, sym, ap, ◌∙◌, append-nil, ℕ, true, List, [], ◌∷◌, ◌++◌, codes}
 use Rattle.std.specs.Prelude.{drop}
@@ -29,7 +29,7 @@ no_bytes name = []
 abbrev begin : System
 begin = first_system no_bytes
 
--- an entry is added and read, and the reply is lost; then the desk of ann claims it
+-- an entry is added and read, and the reply is lost; then the queue of ann claims it
 abbrev claimed : List Move
 claimed = Serves (Append (1, 0) fields) ∷ Serves (Read ann 1) ∷ Serves (Claim ann (λ id. true) (codes "0-0")) ∷ []
 
@@ -64,7 +64,7 @@ not_acknowledged = Posts ann 0 entry ∷ Adds_letter ann ∷ []
 pub still_pending : (run text (claimed ++ not_acknowledged) begin).server.acknowledged_ids ≡ []
 still_pending = refl
 
--- ---- wrong desks
+-- ---- wrong queues
 
 none : (line rest : List ℕ) → [] ≡ line ++ 10 ∷ rest → ⊥
 none [] rest q = absurd (let z : [] ≡ 10 ∷ rest = q in cc)

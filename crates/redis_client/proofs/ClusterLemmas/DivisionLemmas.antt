@@ -144,7 +144,7 @@ divided_small r b small bit =
 
 -- ---- zeros after
 
--- times x, so often
+-- times x, this number of times
 abbrev times : ℕ → ℕ → ℕ
 times zero r = r
 times (suc n) r = times n (shifted r)
@@ -196,7 +196,7 @@ raised_fold (b ∷ bits) r small are =
     ap (λ x. fold with_bit x bits) (sym (raised_divided r b small are.0))
     ∙ raised_fold bits (divided r b) (divided_small r b small are.0) are.1
 
--- so many zeros
+-- this number of zeros
 abbrev zeros : ℕ → List ℕ
 zeros zero = []
 zeros (suc n) = 0 ∷ zeros n

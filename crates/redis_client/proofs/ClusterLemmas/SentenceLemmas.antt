@@ -41,9 +41,9 @@ sentences_tell (other n) (moved q) text a b = absurd (moved_is_no_other text (pl
 sentences_tell (other n) (ask q) text a b = absurd (ask_is_no_other text (place_text q) n b.1 a)
 sentences_tell (other n) (other o) text a b = ap other (same_Some n o (sym a ∙ b))
 
--- ---- what a text does not say
+-- ---- meanings that a text does not have
 
--- a text that names no place after `MOVED` says nothing
+-- a text that names no node after `MOVED` has no meaning
 pub no_moved : (text rest : List ℕ) → text ≡ codes "MOVED " ++ rest
     → ((p : Place) → IsPlace p → rest ≡ place_text p → ⊥) → IsReadFrom text None
 no_moved text rest is none (moved p) says =
@@ -65,7 +65,7 @@ nothing text not_moved not_ask code (moved p) says = not_moved (place_text p) sa
 nothing text not_moved not_ask code (ask p) says = not_ask (place_text p) says.1
 nothing text not_moved not_ask code (other o) says = none-some o (sym code ∙ says)
 
--- any other text says what its code does
+-- any other text has the meaning of its code
 pub by_code : (text : List ℕ) (r : Option Meaning) → ((rest : List ℕ) → text ≡ codes "MOVED " ++ rest → ⊥)
     → ((rest : List ℕ) → text ≡ codes "ASK " ++ rest → ⊥) → r ≡ option_map other_meaning (other_of (code_of text))
     → IsReadFrom text r

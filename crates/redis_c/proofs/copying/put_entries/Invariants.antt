@@ -3,7 +3,7 @@ use Rattle.redis_streams.specs.PendingMeaning.{pending_id_meaning}
 use Rattle.redis_c.specs.Records.{AreAt, IsPendingAt, pending_text}
 use Rattle.redis_c.proofs.copying.put_entries.Given as goal
 
--- the texts so far are put behind the others, and the records so far tell of them
+-- the texts so far are appended to the others, and the records so far describe them
 abbrev pub invariant-loop-entry : goal.invariant-loop-entry
 invariant-loop-entry l =
     let front = map pending_id_meaning (take l.entry-index l.entries) in

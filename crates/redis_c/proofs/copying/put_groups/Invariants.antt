@@ -3,7 +3,7 @@ use Rattle.redis_streams.specs.InfoMeaning.{group_meaning}
 use Rattle.redis_c.specs.Records.{AreAt, IsGroupAt, group_text}
 use Rattle.redis_c.proofs.copying.put_groups.Given as goal
 
--- the texts so far are put behind the others, and the records so far tell of them
+-- the texts so far are appended to the others, and the records so far describe them
 abbrev pub invariant-loop-group : goal.invariant-loop-group
 invariant-loop-group l =
     let front = map group_meaning (take l.group-index l.groups) in

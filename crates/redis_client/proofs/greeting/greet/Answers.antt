@@ -1,4 +1,4 @@
--- What is asked first, and then the database.
+-- The first commands, and then the database.
 use Rattle.std.proofs.Common.{◌≡◌, ◌++◌, sym, subst}
 use Rattle.std.proofs.lemmas.Result.{err_from_is_err_and, IfOk-weaker, IfErr-weaker}
 use Rattle.redis_client.specs.AddressMeaning.{meaning_of}
