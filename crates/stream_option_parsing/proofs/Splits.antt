@@ -78,11 +78,11 @@ module _ {T : Type 0} (Fits : T → Type 0) (f : T → List (List ℕ)) (words :
       let d = some_pair_parts x.0 y.0 (drop k args) (drop l args) (sym x.1 ∙ y.1) in
       omega (arith, ap length d.1, length-drop k args, length-drop l args, s.within, t.within)
 
-  -- where nothing is read there is no split
+  -- if nothing is read there is no split
   pub split_none : (args : List (List ℕ)) → read args ≡ None → HasNoSplit Fits f words args
   split_none args e o k s = let x = split_read args o k s in none-some (x.0, drop k args) (sym e ∙ x.1)
 
-  -- nor where what follows isn't free
+  -- nor if what follows isn't free
   pub split_not_free : (args : List (List ℕ)) (o : T) (r : List (List ℕ)) → read args ≡ Some (o, r)
       → begins words r ≡ true → HasNoSplit Fits f words args
   split_not_free args o r e begun other k s =
@@ -90,7 +90,7 @@ module _ {T : Type 0} (Fits : T → Type 0) (f : T → List (List ℕ)) (words :
       let d = some_pair_parts o x.0 r (drop k args) (sym e ∙ x.1) in
       let q : true ≡ false = sym begun ∙ ap (begins words) d.1 ∙ s.free in absurd cc
 
-  -- where reading failed for another cause than memory
+  -- if reading failed for another cause than memory
   pub split_fails : (args : List (List ℕ)) (e : SentenceError) → Fails e (read args) → e ≡ NotASentence
       → HasNoSplit Fits f words args
   split_fails args NotASentence h m = split_none args h

@@ -1,4 +1,4 @@
--- A strategy is a bound, and a limit where one is set.
+-- A strategy is a bound, and a limit if one is set.
 use Rattle.std.proofs.Common.{◌≡◌, ℕ, List, codes, Option, Some, None, refl, ◌∙◌, ap}
 use Rattle.std.proofs.lemmas.Option.{some_pair_parts}
 use Rattle.std.specs.Option.{option_map, option_and_then}

@@ -12,7 +12,7 @@ abbrev pub pieces : ℕ → List (List ℕ) → List ℕ → List (List ℕ)
 pieces mark end [] = end
 pieces mark end (b ∷ bytes) = if b == mark then [] ∷ pieces mark end bytes else onto b (pieces mark end bytes)
 
--- the lines, cut at each LF; a last line without LF counts where it has a byte
+-- the lines, cut at each LF; a last line without LF counts if it has a byte
 abbrev pub lines_of : List ℕ → List (List ℕ)
 lines_of = pieces 10 []
 

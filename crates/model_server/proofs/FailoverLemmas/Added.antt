@@ -1,4 +1,4 @@
--- What the producer takes to be in is in each state that the server may go back to.
+-- Each record that the producer knows to be in is in each state that the server may return to.
 use Rattle.std.proofs.Common.{◌≡◌, inl, inr, refl, sym, subst, ℕ, ◌≤◌, zero, suc, arith, Bool, true, false}
 use Rattle.std.proofs.Common.{List, [], ◌∷◌, ◌++◌, map, length, take, Option}
 use Rattle.std.proofs.Common.{Some, None, if◌then◌else◌}

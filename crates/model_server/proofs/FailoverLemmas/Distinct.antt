@@ -1,4 +1,4 @@
--- No id is twice in the log, in any state that the server may go back to, whoever adds to it.
+-- No id is twice in the log, in any state that the server may return to, whoever adds to it.
 use Rattle.std.proofs.Common.{◌≡◌, inl, inr, refl, subst, ℕ, Bool, true, false, List, [], Option, Some, None}
 use Rattle.std.proofs.Common.{if◌then◌else◌}
 use Rattle.model_server.specs.Group.Group.{ids_of}

@@ -1,4 +1,4 @@
--- No id is twice in the file of a consumer that looks up.
+-- No id is twice in the file of a consumer that checks its file.
 use Rattle.std.proofs.Common.{◌≡◌, ◌⊎◌, inl, inr, refl, sym, ap, subst, ◌∙◌, ℕ, Bool, true, false, ◌&&◌, List, [], ◌∷◌, ◌++◌}
 use Rattle.std.proofs.Common.{take, drop, append_assoc, Option, Some, None, if◌then◌else◌}
 use Rattle.std.specs.Option.{is_none}

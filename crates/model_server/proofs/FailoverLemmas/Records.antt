@@ -1,4 +1,4 @@
--- What is in the log or in the file is of the records, with WAIT or without.
+-- Each entry of the log or of the file is one of the records, with or without WAIT.
 use Rattle.std.proofs.Common.{◌≡◌, inl, inr, refl, sym, ap, subst, ℕ, ◌+◌, ◌<◌, ◌≤◌, ◌^◌, zero, suc, arith, nat_lt}
 use Rattle.std.proofs.Common.{Bool, true, false, ◌&&◌, List, [], ◌∷◌, ◌++◌, length, take, drop, append_assoc}
 use Rattle.std.proofs.Common.{Option, Some, None, if◌then◌else◌}

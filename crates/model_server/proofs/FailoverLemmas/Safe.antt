@@ -1,4 +1,4 @@
--- Each record that is confirmed is to come, or pending, or in the file, or deleted.
+-- Each record that is confirmed is undelivered, or pending, or in the file, or deleted.
 use Rattle.std.proofs.Common.{◌≡◌, ◌⊎◌, inl, inr, refl, sym, ap, subst, ◌∙◌, ℕ, ◌+◌, ◌-◌, ◌≤◌, arith, Bool}
 use Rattle.std.proofs.Common.{true, false, ◌&&◌, List, [], ◌∷◌, ◌++◌, length, take, append_assoc, Option, Some}
 use Rattle.std.proofs.Common.{None, if◌then◌else◌}

@@ -1,5 +1,5 @@
 -- A schedule that meets each premise: a batch that is not confirmed and is gone after a failover, and another failover
--- that takes an acknowledgement back.
+-- that undoes an acknowledgement.
 use Rattle.std.proofs.Common.{◌≡◌, refl, ℕ, arith, true, List, [], ◌∷◌, codes}
 use Rattle.std.specs.Fmt.{digits}
 use Rattle.model_server.specs.Group.Worker.{done}
@@ -16,7 +16,7 @@ two = record { records = 7 ∷ 8 ∷ []; base = 3; name = codes "me" }
 abbrev asking : List (Event ℕ) → List (Event ℕ)
 asking more = Plain (Send 0) ∷ Arrive_waits true 1 1 ∷ Plain Hear ∷ more
 
--- it sends both records. They are added, no replica confirms, and the master dies
+-- it sends both records. They are added, no replica confirms, and the master fails
 abbrev lost_batch : List (Event ℕ) → List (Event ℕ)
 lost_batch more = asking (Plain (Send 2) ∷ Arrive_waits true 1 0 ∷ Failover 1 ∷ more)
 
@@ -30,8 +30,8 @@ ask = Ask_waits 4 (λ id. true) (codes "0-0") 1 1
 abbrev commit_and_acknowledge : List (Event ℕ) → List (Event ℕ)
 commit_and_acknowledge more = Plain Sync ∷ Plain Acknowledge_now ∷ Plain (Take []) ∷ more
 
--- the consumer finds nothing of its own, claims nothing, is given both, does them and acknowledges. The master dies,
--- both are pending again, and come again; it looks them up, and acknowledges again
+-- the consumer finds nothing of its own, claims nothing, gets both, does them and acknowledges. The master fails,
+-- both are pending again, and are redelivered; it finds them in its file, and acknowledges again
 abbrev draining : List (Event ℕ)
 draining =
     ask ∷ Plain (Take []) ∷ ask ∷ Plain (Take []) ∷ ask ∷ Plain (Take (done ∷ done ∷ [])) ∷

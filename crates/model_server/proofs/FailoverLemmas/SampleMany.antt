@@ -28,7 +28,7 @@ first_one = map id_text ((1, 0) ∷ [])
 abbrev settled : List (Event ℕ) → List (Event ℕ)
 settled more = Plain (Take (done ∷ [])) ∷ Plain Sync ∷ Plain Acknowledge_now ∷ Plain (Take []) ∷ more
 
--- a consumer finds nothing of its own, claims nothing, and does what it is given as new
+-- a consumer finds nothing of its own, claims nothing, and does each new entry that it gets
 abbrev loose_ask : Event ℕ
 loose_ask = Plain (Ask 4 (λ id. false) (codes "0-0"))
 

@@ -94,7 +94,7 @@ module _ {F : Type 0} where
   same_plain s w (Restart every kept n) h = refl
   same_plain s w (Else e) h = same_else w.stream e h
 
-  -- nothing is deleted, in each state that the server may go back to
+  -- nothing is deleted, in each state that the server may return to
   record Whole (w : World F) : Type 0 where
     now : w.now.stream.deleted ≡ []
     each : (k : group.World F) → Among k w.kept → k.deleted ≡ []

@@ -1,4 +1,4 @@
--- What may be lost and what may come again without WAIT: schedules in which it does.
+-- What may be lost and what may be redelivered without WAIT: schedules in which it does.
 use Rattle.std.proofs.Common.{◌≡◌, refl, ℕ, true, List, [], ◌∷◌, map, codes}
 use Rattle.std.specs.Fmt.{digits}
 use Rattle.model_server.specs.Group.Worker.{Id, Entry, done}
@@ -45,13 +45,13 @@ first_is_lost = refl
 abbrev ask : Event ℕ
 ask = Plain (Ask 4 (λ id. true) (codes "0-0"))
 
--- it is given the new entries, does the first of them, commits and acknowledges
+-- it gets the new entries, does the first of them, commits and acknowledges
 abbrev handling : List (Event ℕ) → List (Event ℕ)
 handling more =
     ask ∷ Plain (Take []) ∷ ask ∷ Plain (Take []) ∷ ask ∷ Plain (Take (done ∷ [])) ∷ Plain Sync ∷
     Plain Acknowledge_now ∷ Plain (Take []) ∷ more
 
--- what it did, what is pending, and what is to come
+-- what it did, what is pending, and what is undelivered
 abbrev pub file_pending_fresh : World ℕ → List Id × List Id × List Id
 file_pending_fresh w = (
   ids_of w.now.consumer.file,
@@ -62,7 +62,7 @@ file_pending_fresh w = (
 abbrev pub first_one : List Id
 first_one = map id_text ((1, 0) ∷ [])
 
--- an entry that was handled and acknowledged is to come again, as new, to any consumer of the group
+-- an entry that was handled and acknowledged is undelivered again, as a new entry, to any consumer of the group
 pub handled_is_new : file_pending_fresh (after two (adding 1 (handling (Failover 5 ∷ []))))
     ≡ (first_one, [], first_one)
 unfolding digits
@@ -73,7 +73,7 @@ pub looked_up : file_pending_fresh (after two (adding 1 (handling (Failover 5 �
 unfolding digits
 looked_up = refl
 
--- the same of a consumer that does not look up
+-- the same of a consumer that does not check its file
 abbrev does_not_look : World ℕ → Event ℕ → World ℕ
 does_not_look w (Plain (Take verdicts)) = remembers w.kept (once.happens two w.now (Take verdicts))
 does_not_look w e = happens two w e

@@ -56,13 +56,13 @@ too_few_is_lost = refl
 abbrev ask : ℕ → Event ℕ
 ask said = Ask_waits 4 (λ id. true) (codes "0-0") 1 said
 
--- the consumer is given the first record by a read that no replica has, handles and acknowledges it
+-- the consumer gets the first record by a read that no replica has, handles and acknowledges it
 abbrev handling : List (Event ℕ) → List (Event ℕ)
 handling more =
     ask 1 ∷ Plain (Take []) ∷ ask 1 ∷ Plain (Take []) ∷ ask 0 ∷ Plain (Take (done ∷ [])) ∷ Plain Sync ∷
     Plain Acknowledge_now ∷ Plain (Take []) ∷ more
 
--- what is not confirmed is handled: after a failover it is to come as new again, to any consumer
+-- what is not confirmed is handled: after a failover it is undelivered again, to any consumer
 pub handled_early : file_pending_fresh (run_by (trusting (λ asked said. true)) (adding 1 1 1 (handling (Failover 5 ∷ []))) first_world)
     ≡ (first_one, [], first_one)
 unfolding digits
@@ -105,7 +105,7 @@ compares_greatest w (Plain (Take verdicts)) =
     remembers w.kept (record w.now { consumer = compares verdicts w.now.consumer.answer w.now.consumer })
 compares_greatest w e = happens two w e
 
--- the handler leaves the first pending and does the second; the first comes again, and is acknowledged without a line
+-- the handler leaves the first pending and does the second; the first is redelivered, and acknowledged without a line
 abbrev leaving_first : List (Event ℕ)
 leaving_first =
     ask 1 ∷ Plain (Take []) ∷ ask 1 ∷ Plain (Take []) ∷ ask 1 ∷ Plain (Take (left_pending ∷ done ∷ [])) ∷ Plain Sync ∷
@@ -117,7 +117,7 @@ pub lower_is_lost : file_pending_fresh (run_by compares_greatest (adding 2 1 1 l
 unfolding digits
 lower_is_lost = refl
 
--- a consumer that looks up so, and any server
+-- a consumer that checks its file in this way, and any server
 abbrev moving : (List Verdict → Option (Answer ℕ) → Consumer ℕ → Consumer ℕ) → List (Move ℕ) → Consumer ℕ → Consumer ℕ
 moving looks [] c = c
 moving looks (Takes verdicts ∷ ms) c = moving looks ms (looks verdicts c.answer c)
@@ -129,7 +129,7 @@ one = (id_text (1, 0), Some 7)
 abbrev one_twice : List Id
 one_twice = map id_text ((1, 0) ∷ (1, 0) ∷ [])
 
--- a lookup in the file alone: an entry comes again before its line is synced
+-- a lookup in the file alone: an entry is redelivered before its line is synced
 abbrev looks_in_file : List Verdict → Option (Answer ℕ) → Consumer ℕ → Consumer ℕ
 looks_in_file verdicts None c = c
 looks_in_file verdicts (Some a) c = record (takes verdicts (Some a) c) {

@@ -1,4 +1,4 @@
--- The count of a pending entry is of that entry alone, where entries come again one at a time.
+-- The count of a pending entry is of that entry alone, if entries are redelivered one at a time.
 use Rattle.std.proofs.Common.{◌≡◌, inl, inr, refl, sym, ap, ◌∙◌, subst, ℕ, ◌+◌, ◌≤◌, arith, Bool}
 use Rattle.std.proofs.Common.{true, false, not, ◌&&◌, List, [], ◌∷◌, ◌++◌, filter, length, Option, Some, None}
 use Rattle.std.proofs.Common.{if◌then◌else◌}
@@ -54,7 +54,7 @@ origin more pick c deleted (q ∷ ps) p h =
     ]
 
 module _ {F : Type 0} where
-  -- an entry with its fields, among one at most that come again, came alone
+  -- an entry with its fields, among one at most that are redelivered, came alone
   is_alone : (id : Id) (f : F) (ds : List (Delivered F)) → length ds ≤ 1 → Among (id, Some f) ds → alone id ds ≡ 1
   is_alone id f [] le h = absurd h
   is_alone id f (d ∷ []) le (inl e) =
@@ -232,7 +232,7 @@ module _ {F : Type 0} where
 
   -- ---- the other events
 
-  -- where what is pending was pending, and what was read stays
+  -- if what is pending was pending, and what was read stays
   pub fewer : (k : Id → ℕ) (w v : World F) → Counted k w → ((p : Pending) → Among p v.pending → Among p w.pending)
       → ((e : Entry F) → Among e w.seen → Among e v.seen) → Counted (Next k []) v
   fewer k w v i within grows = record {

@@ -28,11 +28,11 @@ counted id count = record { id = id; consumer = ann; count = count }
 abbrev read_both : List (Event F)
 read_both = Append (1, 0) 7 ∷ Append (2, 0) 8 ∷ Read ann 2 ∷ Crash ann 1 (λ e. false) [] ∷ []
 
--- both come again at once
+-- both are redelivered at once
 abbrev at_once : List (Event F)
 at_once = read_both ++ Reread ann (λ id. true) ∷ []
 
--- the first comes again alone, two times
+-- the first is redelivered alone, two times
 abbrev by_itself : List (Event F)
 by_itself = read_both ++ Reread ann (bytes_eq first) ∷ Crash ann 1 (λ e. false) [] ∷ Reread ann (bytes_eq first) ∷ []
 

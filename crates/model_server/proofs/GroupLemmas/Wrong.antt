@@ -63,7 +63,7 @@ pub acknowledged_all_the_same : (after_by begins_with_any (λ e. false)).acknowl
 unfolding digits
 acknowledged_all_the_same = refl
 
--- it is not to come, not pending, not committed and not deleted
+-- it is neither undelivered nor pending, and neither committed nor deleted
 pub gone : (after_by begins_with_any (λ e. false)).pending ≡ []
 unfolding digits
 gone = refl

@@ -1,4 +1,4 @@
--- The count of a pending entry is of that entry alone, where entries come again one at a time.
+-- The count of a pending entry is of that entry alone, if entries are redelivered one at a time.
 use Rattle.std.proofs.Common.{ℕ, ◌+◌, ◌≤◌, arith, Bool, true, false, ◌&&◌, List, [], ◌∷◌, length}
 use Rattle.std.proofs.Common.{Option, Some, None, if◌then◌else◌}
 use Rattle.std.specs.Option.{is_none}

@@ -103,7 +103,7 @@ module _ {F : Type 0} (s : Setting F) (fit : Fit s) where
     pub kept : KeptOf w.stream
     pub fed : Fed (length kept.added) w.producer
 
-  -- what an event makes of it, which takes nothing back
+  -- what an event makes of it, which undoes nothing
   pub record Next (m : ℕ) (w : World F) : Type 0 where
     pub inv : Inv w
     pub grows : m ≤ length inv.kept.added
@@ -338,7 +338,7 @@ module _ {F : Type 0} (s : Setting F) (fit : Fit s) where
     one = λ r a e k. none_some r e;
   }
 
-  -- each event keeps it, and takes nothing back
+  -- each event keeps it, and undoes nothing
   pub each : (w : World F) (i : Inv w) (e : Event F) → NoOtherAdd e → Next (length i.kept.added) (happens s w e)
   each w i (Send n) h = moves w i (happens s w (Send n)) (refl, refl)
       (sending (length i.kept.added) w.producer n (bounded w.stream i.kept) i.fed
@@ -413,7 +413,7 @@ module _ {F : Type 0} (s : Setting F) (fit : Fit s) where
       let i = always es h in
       omega (arith, i.fed.so, log_length (after s es) i)
 
-  -- where the producer knows all records to be in, the log is they
+  -- if the producer knows that all records are in, the log is all records
   pub done_in : (w : World F) → Inv w → w.producer.stage ≡ knows (length s.records) → log w ≡ entries s.base s.records
   done_in w i h =
       let so : length s.records ≤ length i.kept.added =

@@ -37,7 +37,7 @@ pending_id [] p h = absurd h
 pending_id (x ∷ ps) p (inl e) = inl (ap (λ (y : Pending). y.id) e)
 pending_id (x ∷ ps) p (inr h) = inr (pending_id ps p h)
 
--- pending entries of one id are the same, where no id is pending twice
+-- pending entries of one id are the same, if no id is pending twice
 same_pending : (ps : List Pending) → Once (pending_ids ps) → (p q : Pending) → Among p ps → Among q ps → p.id ≡ q.id
     → p ≡ q
 same_pending [] o p q h k e = absurd h

@@ -1,4 +1,4 @@
--- Of several consumers one has each record that was added in its file, or it is still to come, or pending, or deleted.
+-- Of several consumers one has each record that was added in its file, or it is undelivered, or pending, or deleted.
 use Rattle.std.proofs.Common.{◌≡◌, ◌⊎◌, inl, inr, refl, sym, subst, ◌∙◌, ℕ, ◌+◌, ◌-◌, Bool, true, false, ◌&&◌, List, []}
 use Rattle.std.proofs.Common.{◌∷◌, ◌++◌, map, length, take, Option, Some, None, if◌then◌else◌}
 use Rattle.std.specs.Option.{is_none}

@@ -1,4 +1,4 @@
--- Each record that was added is still to come, or pending, or in the file, or deleted.
+-- Each record that was added is undelivered, or pending, or in the file, or deleted.
 use Rattle.std.proofs.Common.{◌≡◌, ◌⊎◌, inl, inr, refl, sym, ap, subst, ◌∙◌, ℕ, ◌+◌, ◌-◌, zero, suc, Bool, true, false}
 use Rattle.std.proofs.Common.{◌&&◌, List, [], ◌∷◌, ◌++◌, map, length, take, drop, Option, Some}
 use Rattle.std.proofs.Common.{None, if◌then◌else◌}

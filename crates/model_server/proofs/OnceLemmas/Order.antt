@@ -122,7 +122,7 @@ not_stopped : stopped ≡ went_through → ⊥
 not_stopped e = absurd (let t : stopped ≡ went_through = e in cc)
 
 module _ {F : Type 0} where
-  -- where nothing is deleted, what is given is what is passed by
+  -- if nothing is deleted, what is given is what is passed by
   given_all : (n : ℕ) (es : List (Entry F)) → given [] n es ≡ passed [] n es
   given_all n [] = refl
   given_all zero (x ∷ es) = refl
@@ -720,7 +720,7 @@ module _ {F : Type 0} (s : Setting F) where
     sym (log_split es h),
   )
 
-  -- where nothing is pending all that was given is in the file
+  -- if nothing is pending all that was given is in the file
   pub all_of_log : (es : List (Event F)) → AllInOrder s first_world es → IsDrained (after s es)
       → (after s es).consumer.file ≡ log (after s es)
   all_of_log es h d =

@@ -21,7 +21,7 @@ abbrev filling : List (Event ℕ) → List (Event ℕ)
 filling more =
     Send 0 ∷ Arrive true ∷ Hear ∷ Send 1 ∷ Break ∷ Send 0 ∷ Arrive true ∷ Hear ∷ Send 2 ∷ Arrive_late 0 true ∷ Arrive true ∷ Hear ∷ more
 
--- the consumer finds nothing of its own, claims nothing, is given both, does one and stops; it crashes in the commit,
+-- the consumer finds nothing of its own, claims nothing, gets both, does one and stops; it crashes in the commit,
 -- and the line is in the file all the same
 abbrev reading_one : List (Event ℕ) → List (Event ℕ)
 reading_one more =

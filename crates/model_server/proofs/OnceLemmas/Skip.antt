@@ -1,4 +1,4 @@
--- Why a consumer does not skip, when they come again, the entries of the last commit of its file, in place of
+-- Why a consumer does not skip, when they are redelivered, the entries of the last commit of its file, in place of
 -- acknowledging them first: after this schedule an id is in its file twice.
 use Rattle.std.proofs.Common.{◌≡◌, refl, inl, inr, subst, ℕ, true, not, List, [], ◌∷◌, ◌++◌, map, filter, length, drop}
 use Rattle.std.proofs.Common.{codes, None}

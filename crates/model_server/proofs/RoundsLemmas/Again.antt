@@ -378,7 +378,7 @@ module _ {F : Type 0} (n : ℕ) (name : Name) (some : 1 ≤ n) (e : Entry F) (ol
   brings_on every phase to_commit (i ∷ ids) ps seen fresh deleted handled acks good k h =
       acked_step phase i ids to_commit ps seen deleted handled acks k h
 
-  -- where no round is left, it was handled and is acknowledged
+  -- if no round is left, it was handled and is acknowledged
   at_last : (phase : Phase) (a c : List Id) (ps : List Pending) (seen : List (Entry F)) (deleted : List Id)
       (handled : List (Entry F)) (acks : List Id) → Fate phase a c ps seen deleted handled acks 0
       → WasHandled deleted handled × Among e.0 acks

@@ -91,7 +91,7 @@ module _ {F : Type 0} (n : ℕ) (name : Name) (some : 1 ≤ n) where
       subst (λ (v : World F). (more : List (Event F)) × (rounds k n name v ≡ run more empty_world)
       × (measure_in (rounds k n name v) ≡ 0)) (sym e) (none_left k further less)
 
--- where no round is left, nothing is
+-- if no round is left, nothing is
 unless_none : (k f x : ℕ) → 1 ≤ x → measure.unless_drained k f x ≡ 0 → (k ≡ 0) × (f ≡ 0)
 unless_none zero zero x l h = (refl, refl)
 unless_none zero (suc f) x l h = absurd (omega (arith, l, h))

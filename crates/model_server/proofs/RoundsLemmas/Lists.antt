@@ -350,7 +350,7 @@ module _ {F : Type 0} where
       ] in
       case (listed (ids_of es) id) h
 
-  -- where all that p means is in an end, so is all that q means
+  -- if all that p means is in an end, so is all that q means
   pub stays_swept : (p q : Id → Bool) (fs es : List (Entry F)) → ((x : Id) → q x ≡ true → p x ≡ true) → IsEnd fs es
       → how_many p es ≤ how_many p fs → how_many q es ≤ how_many q fs
   stays_swept p q fs [] h k l = omega arith

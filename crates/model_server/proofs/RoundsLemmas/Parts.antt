@@ -264,7 +264,7 @@ module _ {F : Type 0} where
       ] in
       case (g e.0) refl h
 
-  -- a read takes a page of what is to come
+  -- a read takes a page of what is undelivered
   pub page_read : (deleted : List Id) (n : ℕ) (es : List (Entry F)) → length (behind deleted n es) ≤ length es - n
   page_read deleted n [] = omega arith
   page_read deleted zero (e ∷ es) = omega arith
@@ -300,7 +300,7 @@ module _ {F : Type 0} where
   listed_right [] fs x h = h
   listed_right (e ∷ es) fs x h = listed_more e.0 x (ids_of (es ++ fs)) (listed_right es fs x h)
 
-  -- what is to come has none of the ids before it
+  -- what is undelivered has none of the ids before it
   pub not_before : (es fs : List (Entry F)) → AreDistinct (es ++ fs) → (x : Id) → listed (ids_of fs) x ≡ true
       → listed (ids_of es) x ≡ true → ⊥
   not_before [] fs d x h k = clash false k refl

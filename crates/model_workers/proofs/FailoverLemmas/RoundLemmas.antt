@@ -1,4 +1,4 @@
--- The rounds of a worker that looks up are events of `model_server::failover`.
+-- The rounds of a worker that checks its file are events of `model_server::failover`.
 use Rattle.std.proofs.Common.{◌≡◌, ◌⊎◌, ◌≤◌, ◌+◌, ◌-◌, inl, inr, refl, sym, ap, subst, ◌∙◌, arith, ℕ, List, [], ◌∷◌, ◌++◌}
 use Rattle.std.proofs.Common.{true, false, Bool, Option, Some, None, map, if◌then◌else◌}
 use Rattle.std.proofs.lemmas.Bool.{false≢true, and_from, not_from_false, lt-ltb, le-ltb}

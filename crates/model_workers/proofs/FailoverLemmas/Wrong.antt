@@ -36,7 +36,7 @@ goes_on k v claims i = absurd (other (ap (λ (m : Machine). m.phase) i.machine �
     other : own (codes "0") ≡ claiming (codes "0-0") → ⊥
     other e = cc e
 
--- a handler that does not look up
+-- a handler that does not check its file
 abbrev never_looks : Keeps Doings
 never_looks = record {
   with_verdict = done_too;
@@ -47,7 +47,7 @@ never_looks = record {
 abbrev entry : Entry Fields
 entry = (codes "1-0", [])
 
--- an entry of its file that comes again gets a second line
+-- an entry of its file that is redelivered gets a second line
 pub line_twice : with_all done_too (never_looks.written [] (entry ∷ [])) (told_in ((codes "1-0", Some []) ∷ []) (done ∷ []))
     ≡ never_looks.written (entry ∷ []) (entry ∷ [])
 line_twice = refl
@@ -59,7 +59,7 @@ it_has_to_look law = absurd (other (ap (λ (d : Doings). d.loose)
     other : entry ∷ [] ≡ [] → ⊥
     other e = cc e
 
--- a handler that looks up what is committed alone
+-- a handler that checks only what is committed
 abbrev looks_in_its_file : Doings → Entry Fields → Verdict → Doings
 looks_in_its_file d e done = if listed (ids_of d.committed) e.0 then d else record d { loose = d.loose ++ e ∷ [] }
 looks_in_its_file d e left_pending = d

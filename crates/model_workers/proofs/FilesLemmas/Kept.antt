@@ -1,4 +1,4 @@
--- What is committed is in a file or has a letter, at any moment.
+-- What is committed is in a file or has a dead letter, at any moment.
 use Rattle.std.proofs.Common.{◌≡◌, ◌⊎◌, inl, inr, refl, sym, ap, subst, ◌∙◌, ℕ, Bool, true, false, not, List, [], ◌∷◌, ◌++◌}
 use Rattle.std.proofs.Common.{filter, append_assoc, append-nil}
 use Rattle.worker_journal.specs.EntryLine.{Entry}
@@ -67,7 +67,7 @@ module _ (form : Form) where
 
   -- ---- each event keeps it
 
-  -- what a handler did is written, or has a letter
+  -- what a handler did is written, or has a dead letter
   loose_placed : (f : Files) → Inv f → (c : Name) (g : Entry → Bool) (e : Entry) → Among e (f.stream.loose c)
       → IsWritten (commits form f c g) e ⊎ HasLetter (commits form f c g) e
   loose_placed f i c g e h =

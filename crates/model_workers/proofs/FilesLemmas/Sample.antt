@@ -1,5 +1,5 @@
 -- Schedules of a worker with a file: once it committed, its line is there after each crash; before, it may be there
--- or not; and an entry that is given up has a letter in its place.
+-- or not; and an entry that is given up has a dead letter in its place.
 use Rattle.std.proofs.Common.{◌≡◌, refl, ℕ, true, false, List, [], ◌∷◌, ◌++◌, codes}
 use Rattle.std.specs.Fmt.{digits}
 use Rattle.worker_journal.specs.EntryLine.{Entry}
@@ -75,7 +75,7 @@ pub fronts : AllLeaveFronts text (first_files before) (handled again)
 unfolding digits
 fronts = (tt, (tt, (tt, ((λ e. false, ([], refl)), (tt, (tt, (tt, (tt, (tt, tt)))))))))
 
--- one that reads its last line back acknowledges it first: the entry does not come again, and is written once
+-- one that reads its last line back acknowledges it first: the entry is not redelivered, and is written once
 abbrev reads_back : List Event
 reads_back =
     Reopens ann 1 line (entry.0 ∷ []) ∷ Goes (Acknowledge ann) ∷ Goes (Ack_comes 0) ∷ Goes (Reread ann (λ id. true)) ∷
@@ -95,7 +95,7 @@ pub not_in_the_file : (after text before (handled
 unfolding digits
 not_in_the_file = refl
 
--- given up: there is a letter and no line
+-- given up: there is a dead letter and no line
 abbrev given_up : Files
 given_up = after text before (handled (Commits ann (λ e. true) ∷ []))
 

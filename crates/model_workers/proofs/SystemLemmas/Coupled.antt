@@ -69,12 +69,12 @@ machine_in w = w.machine
 abbrev loose_in : Standing Doings → List Entry
 loose_in w = w.history.loose
 
--- if it was added, the entry has a letter
+-- if it was added, the entry has a dead letter
 abbrev pub Added : List Entry → Entry → Bool → Type 0
 Added letters e true = Among e letters
 Added letters e false = Unit {0}
 
--- the first of these has a letter, if it was added; nothing was added if none waits
+-- the first of these has a dead letter, if it was added; nothing was added if none waits
 abbrev pub FirstIsAdded : List Entry → List Entry → Bool → Type 0
 FirstIsAdded letters [] added = added ≡ false
 FirstIsAdded letters (e ∷ es) added = Added letters e added

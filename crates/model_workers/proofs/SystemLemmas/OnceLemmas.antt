@@ -234,7 +234,7 @@ module _ (s : Setting Fields) where
     file = i.file;
   }
 
-  -- where the machine and the doings are these too
+  -- if the machine and the doings are these too
   also : (m n : Machine) (d e : Doings) (c : Consumer Fields) → m ≡ n → d ≡ e → Is m None d c → Is n None e c
   also m n d e c p q i = record {
     machine = i.machine ∙ p;

@@ -102,7 +102,7 @@ module _ (form : Form) (name : Name) (settings : Settings) where
       ∙ at_one u.workers name (having settings (u.workers name) reply vs)
       ∙ ap (λ w. having settings w reply vs) (others_leave form name others t h ∙ has_asked s)
 
-  -- as it begins again
+  -- as it starts over
   abbrev again : Standing Doings → Standing Doings
   again y = record y { machine = begins_again y.machine }
 

@@ -70,7 +70,7 @@ next_first : (letters es : List Entry) → FirstIsAdded letters es false
 next_first letters [] = refl
 next_first letters (e ∷ es) = tt
 
--- what is acknowledged has a letter
+-- what is acknowledged has a dead letter
 acknowledged_lettered : (letters es : List Entry) (added : Bool) → FirstIsAdded letters es added → (id : Id)
     → Among id (if added then ids_of (first es) else []) → (fields : Fields) × Among (id, fields) letters
 acknowledged_lettered letters es false h id k = absurd k

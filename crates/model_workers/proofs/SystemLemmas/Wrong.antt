@@ -33,7 +33,7 @@ begin = first_system no_bytes
 abbrev claimed : List Move
 claimed = Serves (Append (1, 0) fields) ∷ Serves (Read ann 1) ∷ Serves (Claim ann (λ id. true) (codes "0-0")) ∷ []
 
--- it is given up: its letter is added, and then it is acknowledged
+-- it is given up: its dead letter is added, and then it is acknowledged
 abbrev given_up : List Move
 given_up =
     Posts ann 0 entry ∷ Adds_letter ann ∷ Sends_ack ann ∷ Serves (Ack_comes 0) ∷ Settles ann 0 ∷ []
@@ -57,7 +57,7 @@ pub nothing_waits : (run text (claimed ++ given_up) begin).desks ann ≡ new_des
 unfolding digits
 nothing_waits = refl
 
--- after a crash before the acknowledgement it is pending, and has its letter
+-- after a crash before the acknowledgement it is pending, and has its dead letter
 abbrev not_acknowledged : List Move
 not_acknowledged = Posts ann 0 entry ∷ Adds_letter ann ∷ []
 
@@ -96,7 +96,7 @@ refutes_at_once (inr (inr (inl h))) = not_in_a_file lost_at_once entry refl h
 refutes_at_once (inr (inr (inr (inl h)))) = h
 refutes_at_once (inr (inr (inr (inr h)))) = h
 
--- the letter counts as added before the reply to it comes
+-- the dead letter counts as added before the reply to it comes
 abbrev added_at_once : System → System
 added_at_once s = with_desk s ann (record (s.desks ann) { added = true })
 

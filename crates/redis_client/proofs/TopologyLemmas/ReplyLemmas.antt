@@ -1,4 +1,4 @@
--- Lists that a loop reads member by member, where the cause of a refusal does not matter.
+-- Lists that a loop reads member by member; the cause of a refusal does not matter.
 use Rattle.std.proofs.Common.{◌≡◌, List, ◌∷◌, sym, Option, None}
 use Rattle.redis_resp.specs.Reading.{traverse}
 use Rattle.redis_resp.proofs.ReadLemmas.{ReadSoFar}
