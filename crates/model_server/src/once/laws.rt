@@ -72,9 +72,9 @@ pub fn no_entry_comes_out_in_two_files<F>()
 {}
 
 /// With several consumers, each record that was added is undelivered, or pending, or in one of the files, or
-/// was deleted. The premise is that nobody else acknowledges (`NoOtherAcks`). So each record is in exactly one
-/// file, if nobody else adds, the producer is done, no entry is pending or undelivered, nothing was
-/// deleted, and no claim takes an entry that another consumer has (`AllFair`).
+/// was deleted. The premise is that nobody else acknowledges (`NoOtherAcks`). Each record is in exactly one file
+/// under four more premises: nobody else adds, and nothing was deleted; the producer is done; no entry is pending
+/// or undelivered; and no claim takes an entry that another consumer has (`AllFair`).
 pub fn each_record_comes_out_in_one_file<F>()
     ensures kept { EachIsKeptByOne F }
     ensures one { EachComesOutInOneFile F }

@@ -25,8 +25,8 @@ pub fn rounds_are_those_of_failover<R>()
 
 /// After each schedule no id is twice in the worker's file, with or without WAIT.
 ///
-/// If the worker and the producer send WAIT, each entry of the file is in the log, with its own fields,
-/// after any failover, and nobody gets it as a new entry. Each record that the producer knew to be in the stream
+/// If the worker and the producer send WAIT, each entry of the file is in the log, with its own fields.
+/// This holds after any failover, and nobody gets it as new. Each record that the producer knew to be in the stream
 /// is undelivered, or pending, or in the file, or was deleted. If the producer once reported that all are in, the
 /// file of a drained stream has each record once. For these two nobody else adds or acknowledges
 /// (`NobodyElse`), and the ids fit (`Fit`). If nobody deletes, the worker need not send WAIT for the first
