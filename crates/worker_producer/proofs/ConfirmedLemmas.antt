@@ -1,4 +1,4 @@
--- Rounds that no WAIT is asked for.
+-- Rounds without a WAIT.
 use Rattle.std.proofs.Common.{sym, subst, ℕ, zero, suc, List, Option, None}
 use Rattle.redis_connection.specs.Link.{Link}
 use Rattle.worker_producer.specs.Confirmed.{ConfirmedRounds, IsConfirmedRound}

@@ -38,7 +38,7 @@ use Rattle.worker_producer.proofs.ScheduleLemmas as schedule
 use Rattle.worker_producer.proofs.ScheduleLemmas.{Is, Answered, as_is, nothing_sent}
 use Rattle.worker_producer.proofs.SessionLemmas.{IsAtRest, sent_at, round_rest, nothing_asked, none_behind}
 
--- so many replicas as are wanted confirm what comes
+-- the required number of replicas confirm what arrives
 abbrev IsEnough : ℕ → Fate → Type 0
 IsEnough wanted (comes b said) = is_confirmed wanted said ≡ true
 IsEnough wanted comes_not = Unit {0}

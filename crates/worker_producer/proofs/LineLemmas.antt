@@ -1,4 +1,4 @@
--- A reply that begins with `+` is no error, and what comes in behind what was held.
+-- A reply that begins with `+` is no error, and bytes that arrive after those that were held.
 use Rattle.std.proofs.Common.{◌≡◌, ◌+◌, ◌<◌, ◌≤◌, ℕ, zero, suc, Bool, true, false, List, [], ◌∷◌, ◌++◌, take}
 use Rattle.std.proofs.Common.{Result, Ok, Err, OnOk, IfErr, refl, sym, ◌∙◌, ap, subst, append_assoc, arith}
 use Rattle.std.proofs.KnownBytes.{Consumes-trans}
@@ -54,7 +54,7 @@ line_fine limits text a r begins = by text r.reply begins
         let P : ℕ → Type 0 = λ c. IsAnyReply limits (c ∷ text) a in
         value_fine limits limits.depth text a (subst P m s)
 
--- ---- what came in behind what was held
+-- -- bytes that arrived after those that were held
 
 receives_behind : (old mid new : Link) (a : wire.Answer) → Waits old mid → Receives mid new a → Receives old new a
 receives_behind old mid new a w r = record {

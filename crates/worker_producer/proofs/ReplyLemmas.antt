@@ -61,13 +61,13 @@ pub miscounted : (b : Bool) (xs : AnswerList) → b ≡ false
 miscounted b xs e =
     subst (λ c. ((c && is_none (not_standing xs)) ≡ false) × ByCount c xs causes.NotAnAnswer) (sym e) (refl, refl)
 
--- there are, and each is of a record that stands
+-- there are this number, and each is of a record in the stream
 pub all_fine : {A E : Type 0} (r : Result A E) (b : Bool) (xs : AnswerList) → b ≡ true
     → OnOk r (not_standing xs ≡ None) → OnOk r ((b && is_none (not_standing xs)) ≡ true)
 all_fine (Ok x) b xs e none = subst (λ c. (c && is_none (not_standing xs)) ≡ true) (sym e) (ap is_none none)
 all_fine (Err x) b xs e none = tt
 
--- or the first one that is not is told
+-- or the first one that is not is reported
 first_told : (b : Bool) (xs : AnswerList) (x : FeedError) → b ≡ true → IsOfFirst (not_standing xs) x
     → ((b && is_none (not_standing xs)) ≡ false) × ByCount b xs x
 first_told b xs x e told =

@@ -88,7 +88,7 @@ in_parts head count front n args counted e =
     ∙ ap (λ bs. head_bytes (length (words ++ rest)) ++ bs)
     (ap (λ f. f ++ flat_map bulk_bytes rest) e ∙ sym (flat_map-append bulk_bytes words rest))
 
--- four parts, one behind the other
+-- four parts, one after the other
 pub four_parts : (out a b c d p q r s : List ℕ) → a ≡ out ++ p → b ≡ a ++ q → c ≡ b ++ r → d ≡ c ++ s
     → d ≡ out ++ (p ++ (q ++ (r ++ s)))
 four_parts out a b c d p q r s e f g h =
@@ -183,7 +183,7 @@ pub sent_err : (r : Result Asked RequestError) (s : Settings) (all : List Fields
 sent_err (Ok a) s all m k len u = tt
 sent_err (Err e) s all m k len u = unsent s all m k e len u
 
--- so many records before these
+-- this number of records before these
 behind_others : {A : Type 0} (m n : ℕ) (xs : List (List A)) → length xs ≤ n
     → (all : List (List A)) × (xs ≡ take n (drop m all))
 behind_others zero n xs few = (xs, sym (take_all n xs few))
@@ -224,7 +224,7 @@ not_read s known m =
     let all = some_records known in
     (all.0, all.1, (m, refl))
 
--- the last id is asked for
+-- the last id is requested
 asked_last : (s : Settings) (all : List Fields) (st : feed.Stage) (out more : List ℕ) (new : Standing) (a : Asked)
     → st ≡ asking → more ≡ out ++ ask_bytes (string_bytes s.key) → new ≡ record { stage = asking; coming = 1 }
     → a ≡ asked.LastId → Sent s (next_batch s all st) out more st new a
@@ -261,7 +261,7 @@ asking_err (Err e) s known old none is =
     let all = some_records known in
     (all.0, all.1, short_of s all.0 old e none is)
 
--- it waits, and asks nothing
+-- it waits, and requests nothing
 waits_at : (s : Settings) (all : List Fields) (out : List ℕ) (m n : ℕ)
     → (let y : Standing = record { stage = waits m n; coming = 0 } in RequestedAt 0 s all out out y y asked.Nothing)
 waits_at s all out m n = record { bytes = sym (append-nil out); asks = refl; stands = refl; fits = tt }

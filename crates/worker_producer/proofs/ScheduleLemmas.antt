@@ -97,8 +97,8 @@ module _ (setting : Setting Fields) where
         answer = ap (λ (q : Producer Fields). q.answer) does ∙ i.answer;
       }
 
-  -- once the fate of what was asked is known: where an answer is on the way back, nothing is on the way there; and nothing is on
-  -- either where nothing was asked
+  -- once the fate of the commands is known: if a reply is on the way back, no command is on the way; and neither is if
+  -- nothing was sent
   pub record Answered (st : feed.Stage) (o : Option (Request Fields)) (p : Producer Fields) : Type 0 where
     pub stage : p.stage ≡ st
     pub some : (x : Answer) → p.answer ≡ Some x → p.sent ≡ None
@@ -177,7 +177,7 @@ module _ (base count : ℕ) where
       let q = took_queued h.1.coming h.1 x h.2 more h.5 in
       q.1 ∙ queued n old h.0 y h.1 h.3 q.0
 
-  -- it hears the answer that is on its way
+  -- it receives the reply that is on its way
   pub heard_it : (setting : Setting Fields) (n : ℕ) (old new : Link) (y x : Standing) (h : Hears base count n old new y x)
       → n ≡ y.coming → (o : Option (Request Fields)) → (y.coming ≡ 0 → o ≡ None) → (p : Producer Fields)
       → Answered setting y.stage o p → IsHeard p.answer (heard_last base count n old new y x h)

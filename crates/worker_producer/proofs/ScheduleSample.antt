@@ -1,5 +1,5 @@
--- A schedule of the code that meets the premises: a producer of one record asks for the last id where there is no stream,
--- adds its record, and asks nothing. Then the law says that the log is this record.
+-- A schedule of the code that meets the premises: a producer of one record requests the last id without a stream,
+-- adds its record, and then sends nothing. Then the law gives that the log is this record.
 use Rattle.std.proofs.Common.{◌≡◌, ◌<◌, ℕ, arith, refl, sym, subst, true, List, [], ◌∷◌, ◌++◌, codes, Option, Some}
 use Rattle.redis_connection.specs.Link.{Link}
 use Rattle.model_server.specs.Once.Feed.{Answer, entries, executed, last_is}
@@ -22,7 +22,7 @@ one = record { records = (codes "a" ∷ codes "b" ∷ []) ∷ []; base = 0; name
 it_fits : Fit one
 it_fits = omega arith
 
--- what is asked comes to the server, and nobody else does anything
+-- the commands arrive at the server, and no other client does anything
 abbrev alone : Meantime
 alone = record { earlier = []; fate = comes true; later = []; earlier_others = tt; later_others = tt }
 
@@ -37,7 +37,7 @@ module _ (s : Settings) (base : 0 ≡ s.base) (batch : s.batch ≡ 1) where
   abbrev known : Option (List Fields)
   known = Some one.records
 
-  -- a round is served if it hears the answer on its way
+  -- a round is served if it receives the reply on its way
   served : (events : List (Event Fields)) (old new : Link) (v x : Standing) (a : Asked)
       (r : IsRound s known 1 old new v x a) (answer : Answer) → answer_after s.batch events ≡ Some answer
       → heard_last s.base 1 r.standing.coming r.link new r.standing x r.hears ≡ Some answer

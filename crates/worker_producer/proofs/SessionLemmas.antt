@@ -1,4 +1,4 @@
--- Rounds of a session: what was asked is answered, and at the end all records are in.
+-- Rounds of a session: each command gets its reply, and at the end all records are added.
 use Rattle.std.proofs.Common.{◌≡◌, ◌+◌, ◌<◌, ◌≤◌, ℕ, zero, suc, List, [], ◌∷◌, length, take, drop, Option}
 use Rattle.std.proofs.lemmas.Bool.{true≢false}
 use Rattle.std.proofs.Common.{true, false, refl, sym, ap, subst, ◌∙◌, arith, add-one}
@@ -120,7 +120,7 @@ rounds_rest zero s known count old new w x rest r = subst IsAtRest (sym r.1) res
 rounds_rest (suc n) s known count old new w x rest r =
     round_rest s known count r.0 new r.1 x r.2 (rounds_rest n s known count old r.0 w r.1 rest r.3) r.4
 
--- ---- where nothing is asked all records are in
+-- -- if nothing is sent, all records are added
 
 abbrev number_of : Asked → ℕ
 number_of asked.Nothing = 0
@@ -175,7 +175,7 @@ all_in s known count old new w x rest r =
       ),
     )
 
--- the round that asked nothing
+-- the round that sent nothing
 last_round : (s v : Settings) (known more : Option (List Fields)) (count : ℕ) (l new : Link) (y x : Standing)
     (a : Asked) → v ≡ s → more ≡ known → IsRound v more count l new y x a → a ≡ asked.Nothing
     → IsRound s known count l new y x asked.Nothing

@@ -11,7 +11,7 @@ use Rattle.worker_producer.specs.Step.{RequestsStayInStep, AnswersStayInStep, Br
 use Rattle.worker_producer.specs.declared.settings.Settings.{Settings}
 use Rattle.worker_producer.specs.declared.stage.Asked.{Asked}
 
--- the model's producer sends where nothing is on the way
+-- the model's producer sends if nothing is on the way
 pub sends_then : (n : ℕ) (all : List (Numbered Fields)) (p : Producer Fields) → p.sent ≡ None → p.answer ≡ None
     → sends n all p ≡ record p { stage = requested n all p.stage; sent = request n all p.stage }
 sends_then n all p unsent unanswered =
@@ -27,7 +27,7 @@ adds_as : (m : ℕ) (b : List (Numbered Fields)) → adding b ≡ on_the_way (as
 adds_as m [] = refl
 adds_as m (r ∷ rs) = refl
 
--- where it stands then, by what it knows
+-- its state after that, by what it knows
 pub stands_as : (s : Settings) (records : List Fields) (base : ℕ) → base ≡ s.base → (st : Stage)
     → requested s.batch (numbered base records) st ≡ (stands_at st (next_batch s records st)).stage
 stands_as s records base is asking = refl

@@ -1,4 +1,4 @@
--- What is asked and taken, by how many replies are still to come.
+-- Requests and replies, by how many replies are still expected.
 use Rattle.std.proofs.Common.{◌≡◌, ℕ, zero, suc, ◌+◌, ◌<◌, List, refl, ap, sym, ◌∙◌, arith, subst, true, Bool}
 use Rattle.std.proofs.Common.{Some, None, option_map, if◌then◌else◌}
 use Rattle.std.specs.Prelude.{Result, Ok, Err, OnOk, IfErr}
@@ -17,7 +17,7 @@ use Rattle.worker_producer.specs.declared.settings.Settings.{Settings}
 use Rattle.worker_producer.specs.declared.stage.Asked.{Asked}
 use Rattle.worker_producer.specs.declared.stage.Asked.TheVariants as asked
 
--- replies are still to come, so nothing is asked
+-- replies are still expected, so nothing is requested
 pub still_to_come : (n : ℕ) (s : Settings) (all : List Fields) (out : List ℕ) (x : Standing) → 0 < n
     → RequestedAt n s all out out x x asked.Nothing
 still_to_come zero s all out x h = absurd (omega arith)
@@ -85,7 +85,7 @@ learnt_last base count a last new said own is = record {
   knows = is;
 }
 
--- a batch stands in the stream
+-- a batch is in the stream
 pub learnt_executed : (base count m n : ℕ) (a : wire.Answer) (new : feed.Stage) → is_executed n a ≡ true
     → new ≡ learns base (waits m n) executed → Learns base count (waits m n) new a
 learnt_executed base count m n a new said is = record {

@@ -54,7 +54,7 @@ module _ (wait : Option Wait) (s : Settings) (known : Option (List Fields)) (cou
   ConfirmedRounds (suc n) old new v x = (l : Link) × (y : Standing) × (a : Asked) × ConfirmedRounds n old l v y
       × IsConfirmedRound l new y x a
 
-  -- it began without the last id, made such rounds, and the next one sent nothing
+  -- it started without the last id, made such rounds, and the next one sent nothing
   pub record FinishedConfirmed (old new : Link) : Type 0 where
     pub count_of : ℕ
     pub link : Link
@@ -63,7 +63,7 @@ module _ (wait : Option Wait) (s : Settings) (known : Option (List Fields)) (cou
     pub rounds : ConfirmedRounds count_of old link idle standing
     pub last : IsConfirmedRound link new standing ends asked.Nothing
 
-  -- it began so, made such rounds, and the next one broke off
+  -- it started without the last id, made such rounds, and the next one broke off
   pub record BrokeConfirmed (old new : Link) (e : ConfirmedError) : Type 0 where
     pub count_of : ℕ
     pub link : Link
@@ -76,12 +76,12 @@ abbrev pub UnconfirmedAreRounds : Type 0
 UnconfirmedAreRounds = (s : Settings) (known : Option (List Fields)) (count : ℕ) (old new : Link)
     → FinishedConfirmed None s known count old new → Finished s known count old new
 
--- and so it is if a round breaks off
+-- the same if a round breaks off
 abbrev pub UnconfirmedBreakOff : Type 0
 UnconfirmedBreakOff = (s : Settings) (known : Option (List Fields)) (count : ℕ) (old new : Link) (e : RunError)
     → BrokeConfirmed None s known count old new (ends.Round e) → Broke s known count old new e
 
--- and no round of it is one that is not confirmed
+-- without a WAIT no round is unconfirmed
 abbrev pub NoneIsUnconfirmed : Type 0
 NoneIsUnconfirmed = (s : Settings) (known : Option (List Fields)) (count : ℕ) (old new : Link) (e : ConfirmError)
     → BrokeConfirmed None s known count old new (ends.Unconfirmed e) → ⊥

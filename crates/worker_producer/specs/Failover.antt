@@ -26,21 +26,21 @@ IsBesides (Arrive_waits executes asked said) = ⊥
 IsBesides (Ask_waits n pick next asked said) = Unit {0}
 IsBesides (Failover which) = ⊥
 
--- so is each of these
+-- each of these is such an event
 abbrev pub AreBesides : List (Event Fields) → Type 0
 AreBesides [] = Unit {0}
 AreBesides (e ∷ es) = IsBesides e × AreBesides es
 
--- what becomes of a round's commands, and of the WAIT after them
+-- the fate of a round's commands, and of the WAIT after them
 pub data Fate : Type 0 where
   -- they reach the server in this round, which executes them, or refuses all of them; this number of replicas confirm
   comes : (executes : Bool) (said : ℕ) → Fate
   -- they arrive later, or never
   comes_not : Fate
 
--- what others do in a round, and what becomes of its commands
+-- the events of others in a round, and the fate of its commands
 pub record Meantime : Type 0 where
-  pub earlier : List (Event Fields)  -- after it asked, before that comes to the server
+  pub earlier : List (Event Fields)  -- after it sent its commands, before they arrive at the server
   pub fate : Fate
   pub later : List (Event Fields)  -- after that, before the producer takes the last reply
   pub earlier_besides : AreBesides earlier
@@ -51,7 +51,7 @@ abbrev pub arrival : ℕ → Fate → List (Event Fields)
 arrival wanted (comes executes said) = Arrive_waits executes wanted said ∷ []
 arrival wanted comes_not = []
 
--- what happens in a round until the replies are received
+-- the events of a round until the replies are received
 abbrev pub until_replied : Settings → Wait → Meantime → List (Event Fields)
 until_replied s w m = Plain (Send s.batch) ∷ (m.earlier ++ (arrival w.replicas m.fate ++ m.later))
 
@@ -86,25 +86,25 @@ module _ (setting : Setting Fields) (w : Wait) (s : Settings) (known : Option (L
   IsSent old new v (ends.Round e) b = IsSentOfTheRecords setting s known count old new v e b
   IsSent old new v (ends.Unconfirmed e) b = SendsTheRecords setting s v b.round.asks.0
 
--- what happens in a round that breaks off: it sent nothing; or its commands have arrived, arrive later, or never
+-- the events of a round that breaks off: it sent nothing; or its commands have arrived, arrive later, or never
 abbrev pub break_events : Settings → Wait → Meantime → ConfirmedError → List (Event Fields)
 break_events s w m (ends.Round (causes.Request e)) = Plain Break ∷ []
 break_events s w m e = until_replied s w m ++ Plain Break ∷ []
 
--- when a crash or a failover comes
+-- the moment of a crash or a failover
 pub data Moment : Type 0 where
   -- between two rounds
   between : Moment
   -- in a round, after it sent its commands
   within : (m : Meantime) → Moment
 
--- what happened in that round
+-- the events of that round
 abbrev pub events_until : Settings → Wait → Moment → List (Event Fields)
 events_until s w between = []
 events_until s w (within m) = until_replied s w m
 
--- a producer with these settings, whose rounds are confirmed by this WAIT, may be so after these events. At first it
--- knows nothing. Then others do something, or a round is confirmed, or it breaks off, or the producer is started again,
+-- the states of a producer with these settings, whose rounds are confirmed by this WAIT, after these events. At first
+-- it knows nothing. Then others act, or a round is confirmed, or it breaks off, or the producer is started again,
 -- or the server fails over, after which the producer goes on over another connection
 pub data Runs (setting : Setting Fields) (w : Wait) : Settings → List (Event Fields) → Standing → Type 0 where
   begins : (s : Settings) → Runs setting w s [] idle
@@ -124,7 +124,7 @@ pub data Runs (setting : Setting Fields) (w : Wait) : Settings → List (Event F
       → Runs setting w s events v
       → Runs setting w with_s (events ++ (events_until s w moment ++ Failover which ∷ Plain Break ∷ [])) idle
 
--- after each schedule it is the producer of the model after these events
+-- after each schedule the producer of the code is that of the model after these events
 abbrev pub RunsAreEvents : Type 0
 RunsAreEvents = (setting : Setting Fields) (w : Wait) (s : Settings) (events : List (Event Fields)) (x : Standing)
     → Runs setting w s events x → IsProducer x (after setting events).now.producer
@@ -134,8 +134,8 @@ abbrev pub RunsWait : Type 0
 RunsWait = (setting : Setting Fields) (w : Wait) (s : Settings) (events : List (Event Fields)) (x : Standing)
     → Runs setting w s events x → ProducerAlwaysWaits events
 
--- as many records as it counts as added are in the log, and stay there whatever happens, failovers too, if nobody else
--- adds and each producer sends WAIT
+-- as many records as it counts as added are in the log, and stay there whatever happens, failovers too, if no other
+-- client adds and each producer sends WAIT
 abbrev pub CodeKnowsWhatStays : Type 0
 CodeKnowsWhatStays = (setting : Setting Fields) → Fit setting → (w : Wait) (s : Settings)
     (events more : List (Event Fields)) (x : Standing) → Runs setting w s events x

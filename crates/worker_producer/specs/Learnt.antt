@@ -16,18 +16,18 @@ IsOwn base count executed = Unit {0}
 IsOwn base count refused = Unit {0}
 IsOwn base count (last_is last) = (last.0 ≤ base) ⊎ ((last.1 ≡ 0) × (last.0 ≤ base + count))
 
--- it is not, so another client added it
+-- the last id is not, so another client added it
 abbrev pub IsForeign : ℕ → ℕ → Numbers → Type 0
 IsForeign base count last = (base < last.0) × ((last.1 ≢ 0) ⊎ (base + count < last.0))
 
--- what it knows after the last reply
+-- the stage after the last reply
 pub record Learns (base count : ℕ) (old new : feed.Stage) (a : wire.Answer) : Type 0 where
   pub hears : feed.Answer
   pub is : heard old a ≡ Some hears
   pub own : IsOwn base count hears
   pub knows : new ≡ learns base old hears
 
--- or why it knows nothing after it
+-- or why the producer knows nothing after it
 abbrev pub Unlearnt : ℕ → ℕ → feed.Stage → wire.Answer → FeedError → Type 0
 Unlearnt base count asking a causes.OtherWriter =
     (last : Numbers) × (last_of a ≡ Some last) × IsForeign base count last

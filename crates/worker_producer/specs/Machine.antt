@@ -53,7 +53,7 @@ asks_of (knows m) [] = asked.Nothing
 asks_of (knows m) (r ∷ rs) = asked.Records
 asks_of (waits m n) b = asked.Nothing
 
--- the state then: XINFO STREAM has one reply, and a batch has one for each command
+-- the state after it: XINFO STREAM has one reply, and a batch has one for each command
 abbrev pub stands_at : feed.Stage → List (Numbered Fields) → Standing
 stands_at asking b = record { stage = asking; coming = 1 }
 stands_at (knows m) [] = record { stage = knows m; coming = 0 }
@@ -75,16 +75,16 @@ pub record Sent (s : Settings) (b : List (Numbered Fields)) (out more : List ℕ
   pub stands : new ≡ stands_at old b
   pub fits : Fits s.base old b
 
--- what it sends while this number of replies are expected: nothing, if there are any
+-- the request while this number of replies are expected: nothing, if there are any
 abbrev pub RequestedAt : ℕ → Settings → List Fields → List ℕ → List ℕ → Standing → Standing → Asked → Type 0
 RequestedAt zero s all out more old new a = Sent s (next_batch s all old.stage) out more old.stage new a
 RequestedAt (suc k) s all out more old new a = (more ≡ out) × (a ≡ asked.Nothing) × (new ≡ old)
 
--- what it sends, of all records
+-- the request, of all records
 abbrev pub Requested : Settings → List Fields → List ℕ → List ℕ → Standing → Standing → Asked → Type 0
 Requested s all out more old new a = RequestedAt old.coming s all out more old new a
 
--- the same of all records if they are known, and else of some
+-- the same of all records if they are known, and otherwise of some list
 abbrev pub Asks : Settings → Option (List Fields) → List ℕ → List ℕ → Standing → Standing → Asked → Type 0
 Asks s known out more old new a = (all : List Fields) × AreAll known all × Requested s all out more old new a
 
@@ -99,7 +99,7 @@ Unsent last causes.NoIdLeft = 2 ^ 64 ≤ last
 Unsent last causes.TooLong = Unit {0}
 Unsent last causes.Memory = Unit {0}
 
--- why it sends nothing
+-- why the request is an error
 abbrev pub Unrequested : Settings → List Fields → Standing → RequestError → Type 0
 Unrequested s all old causes.NotRead = (m : ℕ) × (old ≡ record { stage = knows m; coming = 0 })
 Unrequested s all old causes.NoIdLeft =
@@ -108,6 +108,6 @@ Unrequested s all old causes.NoIdLeft =
 Unrequested s all old causes.TooLong = old.coming ≡ 0
 Unrequested s all old causes.Memory = old.coming ≡ 0
 
--- the same of all records if they are known, and else of some
+-- the same of all records if they are known, and otherwise of some list
 abbrev pub AsksNone : Settings → Option (List Fields) → Standing → RequestError → Type 0
 AsksNone s known old e = (all : List Fields) × AreAll known all × Unrequested s all old e

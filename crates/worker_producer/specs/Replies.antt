@@ -34,7 +34,7 @@ abbrev pub last_text : Tree → Option (List ℕ)
 last_text t = option_and_then (λ fields. field_record text_reading fields (codes "last-generated-id"))
     (fields_reading (λ field. Some field) t)
 
--- and its two numbers
+-- its two numbers
 abbrev pub last_in : Tree → Option Numbers
 last_in t = option_and_then numbers_in (last_text t)
 
@@ -87,7 +87,7 @@ abbrev pub not_standing : AnswerList → Option wire.Answer
 not_standing no_answers = None
 not_standing (more_answers a xs) = if stands a then not_standing xs else Some a
 
--- there is none
+-- there is no such reply
 abbrev pub is_none : {A : Type 0} → Option A → Bool
 is_none None = true
 is_none (Some x) = false
@@ -106,7 +106,7 @@ is_executed n (wire.refused text) = false
 is_executed n (wire.group kind members) = all_stand n kind members
 is_executed n (wire.pushed kind payload) = false
 
--- what a producer hears, if the reply is one to its command
+-- the reply as the producer reads it, if it fits the command
 abbrev pub heard : Stage → wire.Answer → Option Answer
 heard asking a = option_map last_is (last_of a)
 heard (knows m) a = None

@@ -36,23 +36,23 @@ IsOfOthers Hear = ⊥
 IsOfOthers Break = ⊥
 IsOfOthers event = Unit {0}
 
--- so is each of these
+-- each of these is such an event
 abbrev pub AreOfOthers : List (Event Fields) → Type 0
 AreOfOthers [] = Unit {0}
 AreOfOthers (e ∷ es) = IsOfOthers e × AreOfOthers es
 
 -- ---- a round
 
--- what becomes of a round's commands
+-- the fate of a round's commands
 pub data Fate : Type 0 where
   -- they reach the server in this round, which executes them, or refuses all of them
   comes : (executes : Bool) → Fate
   -- they arrive later, or never
   comes_not : Fate
 
--- what others do in a round, and what becomes of its commands
+-- the events of others in a round, and the fate of its commands
 pub record Meantime : Type 0 where
-  pub earlier : List (Event Fields)  -- after it asked, before that comes to the server
+  pub earlier : List (Event Fields)  -- after it sent its commands, before they arrive at the server
   pub fate : Fate
   pub later : List (Event Fields)  -- after that, before the producer takes the last reply
   pub earlier_others : AreOfOthers earlier
@@ -63,7 +63,7 @@ abbrev pub arrival : Fate → List (Event Fields)
 arrival (comes executes) = Arrive executes ∷ []
 arrival comes_not = []
 
--- what happens in a round until the last reply is received
+-- the events of a round until the last reply is received
 abbrev pub until_replied : Settings → Meantime → List (Event Fields)
 until_replied s m = Send s.batch ∷ (m.earlier ++ (arrival m.fate ++ m.later))
 
@@ -77,13 +77,13 @@ pub record SendsTheRecords (setting : Setting Fields) (s : Settings) (v : Standi
   pub base : setting.base ≡ s.base
   pub batch : next_batch s all v.stage ≡ next_batch s setting.records v.stage
 
--- a producer hears the reply sent to it, or nothing that it can use
+-- a producer receives the reply sent to it, or nothing that it can use
 abbrev pub IsHeard : Option Answer → Option Answer → Type 0
 IsHeard sent None = Unit {0}
 IsHeard sent (Some answer) = sent ≡ Some answer
 
 module _ (base count : ℕ) where
-  -- what it hears of the last of these replies, which comes after those that are `QUEUED`
+  -- the content of the last of these replies, which comes after those that are `QUEUED`
   abbrev pub heard_last : (n : ℕ) (old new : Link) (w x : Standing) → Hears base count n old new w x → Option Answer
   heard_last zero old new w x h = None
   heard_last (suc n) old new w x h = heard h.1.stage h.2
@@ -107,7 +107,7 @@ RoundsAreEvents = (setting : Setting Fields) (s : Settings) (known : Option (Lis
     → IsProducer v w.producer → IsServed setting s known count old new v x a m w r
     → IsProducer x (run setting (round_events s m) w).producer
 
--- the bytes of what is on the way to the server
+-- the bytes of the commands on the way to the server
 abbrev pub sent_bytes : Settings → Option (Request Fields) → List ℕ
 sent_bytes s None = []
 sent_bytes s (Some ask_last) = ask_bytes (string_bytes s.key)
@@ -127,7 +127,7 @@ ToldRecordsAreSent = (setting : Setting Fields) (s : Settings) (out more : List 
 
 -- ---- a round that breaks off
 
--- it sent nothing; or its commands have arrived, arrive later, or never
+-- the events: it sent nothing; or its commands have arrived, arrive later, or never
 abbrev pub break_events : Settings → Meantime → RunError → List (Event Fields)
 break_events s m (causes.Request e) = Break ∷ []
 break_events s m e = until_replied s m ++ Break ∷ []
@@ -157,7 +157,7 @@ pub data Moment : Type 0 where
   -- in a round, after it sent its commands
   within : (m : Meantime) → Moment
 
--- what happened in that round
+-- the events of that round
 abbrev pub events_until : Settings → Moment → List (Event Fields)
 events_until s between = []
 events_until s (within m) = until_replied s m
@@ -173,8 +173,8 @@ StartsAreEvents = (setting : Setting Fields) (s : Settings) (v : Standing) (mome
 
 -- ---- a schedule
 
--- a producer with these settings may be so after these events of the model. At first it knows nothing. Then others do
--- something, or it makes a round, or a round of it breaks off, or it is started again, with whatever settings
+-- the states of a producer with these settings after these events of the model. At first it knows nothing. Then others
+-- act, or it makes a round, or a round of it breaks off, or it is started again, with any settings
 pub data Runs (setting : Setting Fields) : Settings → List (Event Fields) → Standing → Type 0 where
   begins : (s : Settings) → Runs setting s [] idle
   rests : (s : Settings) (events others : List (Event Fields)) (v : Standing) → AreOfOthers others
@@ -190,14 +190,14 @@ pub data Runs (setting : Setting Fields) : Settings → List (Event Fields) → 
   starts : (s with_s : Settings) (events : List (Event Fields)) (v : Standing) (moment : Moment)
       → Runs setting s events v → Runs setting with_s (events ++ start_events s moment) idle
 
--- after each schedule it is the producer of the model after these events
+-- after each schedule the producer of the code is that of the model after these events
 abbrev pub RunsAreEvents : Type 0
 RunsAreEvents = (setting : Setting Fields) (s : Settings) (events : List (Event Fields)) (x : Standing)
     → Runs setting s events x → IsProducer x (after setting events).producer
 
 -- ---- a session
 
--- what happens in this number of rounds
+-- the events of this number of rounds
 abbrev pub session_events : Settings → (ℕ → Meantime) → ℕ → List (Event Fields)
 session_events s ms zero = []
 session_events s ms (suc n) = session_events s ms n ++ round_events s (ms n)
@@ -223,7 +223,7 @@ SessionsRun = (setting : Setting Fields) (s : Settings) (known : Option (List Fi
     → EachIsServed setting s known count ms events n old new v x r
     → Runs setting s events v → Runs setting s (events ++ session_events s ms n) x
 
--- and one that breaks off is such rounds and a break
+-- a session that breaks off is such rounds and a break
 abbrev pub BrokenSessionsRun : Type 0
 BrokenSessionsRun = (setting : Setting Fields) (s : Settings) (known : Option (List Fields)) (count : ℕ)
     (ms : ℕ → Meantime) (events : List (Event Fields)) (old new : Link) (e : RunError)
@@ -235,24 +235,24 @@ BrokenSessionsRun = (setting : Setting Fields) (s : Settings) (known : Option (L
 
 -- ---- what holds after each schedule
 
--- the log is the first of the records, in order, with their own fields, if nobody else adds
+-- the log is the first of the records, in order, with their own fields, if no other client adds
 abbrev pub CodeAddsFirstRecords : Type 0
 CodeAddsFirstRecords = (setting : Setting Fields) → Fit setting → (s : Settings) (events : List (Event Fields))
     (x : Standing) → Runs setting s events x → NoOtherAdds events
     → AreFirst (log (after setting events)) (entries setting.base setting.records)
 
--- no id is twice in it, whoever adds to it
+-- no id is twice in the log, whoever adds to it
 abbrev pub CodeAddsOnce : Type 0
 CodeAddsOnce = (setting : Setting Fields) (s : Settings) (events : List (Event Fields)) (x : Standing)
     → Runs setting s events x → Once (ids_of (log (after setting events)))
 
--- as many records as the code counts as added are in the log, if nobody else adds
+-- as many records as the code counts as added are in the log, if no other client adds
 abbrev pub CodeKnowsWhatIsIn : Type 0
 CodeKnowsWhatIsIn = (setting : Setting Fields) → Fit setting → (s : Settings) (events : List (Event Fields))
     (x : Standing) → Runs setting s events x → NoOtherAdds events
     → known_in x.stage ≤ length (log (after setting events))
 
--- if a round sends nothing, the log is all records, if nobody else adds
+-- if a round sends nothing, the log is all records, if no other client adds
 abbrev pub AskingNothingIsAll : Type 0
 AskingNothingIsAll = (setting : Setting Fields) → Fit setting → (s : Settings) → 0 < s.batch
     → (events : List (Event Fields)) (known : Option (List Fields)) (count : ℕ) (old new : Link) (v x : Standing)

@@ -33,7 +33,7 @@ module _ (base count : ℕ) where
   abbrev pub HearsAll : Link → Link → Standing → Standing → Type 0
   HearsAll old new w x = Hears w.coming old new w x
 
-  -- a reply was not received, and the error says why; or it was, and was refused
+  -- a reply was not received, for the reason in the error; or it was, and was refused
   abbrev pub Unheard : Link → Link → Standing → RunError → Type 0
   Unheard old new w (causes.Request e) = ⊥
   Unheard old new w (causes.Send e) = ⊥
@@ -46,7 +46,7 @@ module _ (base count : ℕ) where
   FailsToHear old new w e = (n : ℕ) × (l : Link) × (x : Standing) × Hears n old l w x × Unheard l new x e
 
 module _ (s : Settings) (known : Option (List Fields)) (count : ℕ) where
-  -- a round: it sent this, and all replies were received
+  -- a round: it sent this command, and all replies were received
   pub record IsRound (old new : Link) (w x : Standing) (a : Asked) : Type 0 where
     pub bytes : List ℕ
     pub link : Link
@@ -55,7 +55,7 @@ module _ (s : Settings) (known : Option (List Fields)) (count : ℕ) where
     pub sends : Sends old link bytes
     pub hears : HearsAll s.base count link new standing x
 
-  -- its commands were not sent whole
+  -- its commands were not sent completely
   pub record IsUnsent (old new : Link) (w : Standing) : Type 0 where
     pub bytes : List ℕ
     pub standing : Standing
@@ -63,7 +63,7 @@ module _ (s : Settings) (known : Option (List Fields)) (count : ℕ) where
     pub asks : Asks s known [] bytes w standing asked
     pub sends : SendsFront old new bytes
 
-  -- they were, and not all replies were received
+  -- its commands were sent, and not all replies were received
   pub record IsUnanswered (old new : Link) (w : Standing) (e : RunError) : Type 0 where
     pub bytes : List ℕ
     pub link : Link
@@ -89,7 +89,7 @@ module _ (s : Settings) (known : Option (List Fields)) (count : ℕ) where
   AllIn x = (m : ℕ) × (x ≡ record { stage = knows m; coming = 0 })
       × ((all : List Fields) × AreAll known all × (0 < s.batch → length all ≤ m))
 
-  -- it began without the last id, made some rounds, and the next one sent nothing
+  -- it started without the last id, made some rounds, and the next one sent nothing
   pub record Finished (old new : Link) : Type 0 where
     pub count_of : ℕ
     pub link : Link
@@ -98,7 +98,7 @@ module _ (s : Settings) (known : Option (List Fields)) (count : ℕ) where
     pub rounds : Rounds count_of old link idle standing
     pub last : IsRound link new standing ends asked.Nothing
 
-  -- it began so, and made rounds until one sent nothing, since all records were added, or as many as were allowed
+  -- it started so, and made rounds until one sent nothing, since all records were added, or as many as were allowed
   pub record Ran (most : ℕ) (old new : Link) (x : Standing) (done : Bool) : Type 0 where
     pub count_of : ℕ
     pub rounds : Rounds count_of old new idle x
@@ -106,7 +106,7 @@ module _ (s : Settings) (known : Option (List Fields)) (count : ℕ) where
     pub finished : done ≡ true → Finished old new
     pub whole : done ≡ false → count_of ≡ most
 
-  -- it began so, made some rounds, and the next one broke off
+  -- it started so, made some rounds, and the next one broke off
   pub record Broke (old new : Link) (e : RunError) : Type 0 where
     pub count_of : ℕ
     pub link : Link

@@ -12,7 +12,7 @@ use Rattle.worker_producer.specs.declared.settings.Settings.{Settings}
 use Rattle.worker_producer.specs.declared.stage.Asked.{Asked}
 use Rattle.worker_producer.specs.declared.stage.Asked.TheVariants as asked
 
--- what is on the way to the server, after this command, with these records
+-- the commands on the way to the server, after this request, with these records
 abbrev pub on_the_way : Asked → List (Numbered Fields) → Option (Request Fields)
 on_the_way asked.Nothing b = None
 on_the_way asked.LastId b = Some ask_last
@@ -35,7 +35,7 @@ AnswersStayInStep = (setting : Setting Fields) (w : World Fields) (x : feed.Answ
     → (new : feed.Stage) → Learns setting.base count w.producer.stage new a
     → (happens setting w Hear).producer.stage ≡ new
 
--- and so is what it does otherwise, and what `disconnected` does: the connection of the model breaks
+-- the other results of `answered`, and `disconnected`, are steps too: the connection of the model breaks
 abbrev pub BreaksStayInStep : Type 0
 BreaksStayInStep = (setting : Setting Fields) (w : World Fields)
     → (happens setting w Break).producer.stage ≡ idle.stage

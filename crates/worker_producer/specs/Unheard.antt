@@ -1,4 +1,4 @@
--- Why a reply is not one to the command.
+-- Why a reply does not fit the command.
 use Rattle.std.specs.Prelude.{◌≡◌, ℕ, Bool, true, false, nat_eq, Option, Some, None}
 use Rattle.redis_wire.specs.Reply as wire
 use Rattle.redis_wire.specs.Reply.{AnswerList}
@@ -30,7 +30,7 @@ IsCause a causes.NotAnAnswer = IsNoError a
 IsCause a causes.OtherWriter = ⊥
 IsCause a causes.Memory = ⊥
 
--- why it has no last id
+-- why a reply to XINFO STREAM has no last id
 abbrev pub IsUnasked : wire.Answer → FeedError → Type 0
 IsUnasked a causes.NotAsked = ⊥
 IsUnasked a (causes.Server e) = (a ≡ wire.refused e.text.items) × (last_of a ≡ None)
@@ -38,17 +38,17 @@ IsUnasked a causes.NotAnAnswer = IsNoError a × (last_of a ≡ None)
 IsUnasked a causes.OtherWriter = ⊥
 IsUnasked a causes.Memory = IsValue a
 
--- the first reply as an error
+-- the first reply that is not one of a record in the stream, as an error
 abbrev pub IsOfFirst : Option wire.Answer → FeedError → Type 0
 IsOfFirst None e = ⊥
 IsOfFirst (Some a) e = IsCause a e
 
--- of replies, by whether there are as many as records were sent
+-- the error of the replies in a group, by whether there are as many as records were sent
 abbrev pub ByCount : Bool → AnswerList → FeedError → Type 0
 ByCount true xs e = IsOfFirst (not_standing xs) e
 ByCount false xs e = e ≡ causes.NotAnAnswer
 
--- of a group
+-- the error of a group
 abbrev pub OfGroup : ℕ → GroupKind → AnswerList → FeedError → Type 0
 OfGroup n groups.Array xs e = ByCount (nat_eq (reply_count xs) n) xs e
 OfGroup n groups.Set xs e = e ≡ causes.NotAnAnswer

@@ -9,7 +9,7 @@ ghost use Rattle.worker_producer.specs.Step.{AnswersStayInStep, BreaksStayInStep
 ghost use Rattle.model_server.specs.Once.Law.{DoneIsAll, KnownIsIn, LogGrows, LogIsFirstRecords, LogOnce};
 
 /// The laws of `model_server::once`, for records with fields: the stream has the first records, in order, each once, with its
-/// own fields. As many records as the producer knows to be added are in the stream. Nobody else adds to the stream.
+/// own fields. As many records as the producer counts as added are in the stream. No other client adds to the stream.
 pub fn nothing_twice()
     ensures first { LogIsFirstRecords Fields }
     ensures once { LogOnce Fields }
@@ -29,7 +29,7 @@ pub fn stays_in_step()
 /// The contracts of `Producer::round`, `disconnected` and `new` are events of the producer of `model_server::once`: a round
 /// that returns Ok, one that breaks off, and a crash with the start after it. So after each schedule of them (`Runs`)
 /// the producer is that of the model, and each round sends the bytes of the model's commands. The rounds of a session
-/// are such rounds, and so are those of one that breaks off.
+/// are such rounds, and so are those of a session that breaks off.
 ///
 /// The premises of a round (`IsServed`) are two. It sends the next of the model's records, which holds for a source
 /// whose records are known. The last reply is the one that the model's server sent.
@@ -45,8 +45,8 @@ pub fn rounds_are_those_of_once()
 {}
 
 /// After each schedule of the code the log is the first of the records, in order, each once, with its own fields. As
-/// many records as the code counts as added are in it. If a round sends nothing, the log is all records; so it is if a
-/// session ends by such a round. Nobody else adds to the stream.
+/// many records as the code counts as added are in it. If a round sends nothing, the log is all records, also if a
+/// session ends by such a round. No other client adds to the stream.
 pub fn the_code_adds_each_record_once()
     ensures first { CodeAddsFirstRecords }
     ensures once { CodeAddsOnce }
@@ -63,9 +63,9 @@ pub fn rounds_without_wait_are_rounds()
 {}
 
 /// A producer whose rounds are confirmed by WAIT (`Producer::round_confirmed`) is that of `model_server::failover`, in which
-/// the server may go back to an earlier state. It is so after each schedule of such rounds, of rounds that break off or
-/// are not confirmed, of crashes and of failovers. So as many records as it counts as added are in the log, and stay
-/// there. If a round sends nothing, the log is all records, and stays so. Nobody else adds to the stream.
+/// the server may go back to an earlier state. This holds after each schedule of such rounds, of rounds that break off
+/// or are not confirmed, of crashes and of failovers. So as many records as it counts as added are in the log, and stay
+/// there. If a round sends nothing, the log is all records, and stays so. No other client adds to the stream.
 ///
 /// The premises of a round are those of `rounds_are_those_of_once`, and that the reply to WAIT is the one
 /// that the server sent. The model's premise is that the new master is a replica that confirmed.

@@ -24,8 +24,8 @@ use std::alloc::Global;
 use std::mem;
 
 /// A producer that adds records to a stream, without input and output: `request` writes the next bytes to send, and
-/// `answered` takes each reply. Each record is added once and in order, whatever fails, as long as nobody else adds to
-/// the stream.
+/// `answered` takes each reply. Each record is added once and in order, whatever fails, as long as no other client adds
+/// to the stream.
 #[derive(Debug, Drop)]
 pub struct Producer {
     settings: Settings,
@@ -80,7 +80,7 @@ impl Producer {
     }
 
     /// Records that the connection was closed: no more replies are expected, and it reads the last id next. Call it
-    /// also after a `FeedError`, if you close the connection then.
+    /// also after a `FeedError` after which you close the connection.
     pub fn disconnected(&mut self)
         ensures standing { standing_of self.new ≡ idle }
         ensures settings { self.new.settings ≡ self.old.settings }
@@ -210,7 +210,7 @@ impl Producer {
         Ok(Asked::Records)
     }
 
-    /// Takes the next reply to what was requested last. `count` is how many records there are. Of the replies to a
+    /// Takes the next reply to the last request. `count` is how many records there are. Of the replies to a
     /// batch the last one counts, that of `EXEC`; an error before it is returned, and the others are still expected.
     /// After an error in the last one it reads the last id.
     #[tactic(auto, using(crate::proofs::TakenLemmas::taken))]

@@ -3,7 +3,7 @@ use Rattle.std.specs.List.{flat_map}
 use Rattle.redis_wire.specs.Packed.{bulk_bytes}
 use Rattle.worker_producer.proofs.batch.append_arguments.Given as goal
 
--- what is written, and what is still to be written, are the whole
+-- the bytes written so far and those still to be written are all bytes
 abbrev pub invariant-loop-word : goal.invariant-loop-word
 invariant-loop-word l =
     l.out.items ++ flat_map bulk_bytes (map (λ w. w.items) (drop l.word-index l.words))

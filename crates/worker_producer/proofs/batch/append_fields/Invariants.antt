@@ -4,7 +4,7 @@ use Rattle.redis_wire.specs.Packed.{bulk_bytes}
 use Rattle.worker_producer.specs.Records.{arguments_of_field}
 use Rattle.worker_producer.proofs.batch.append_fields.Given as goal
 
--- what is written, and what is still to be written, are the whole
+-- the bytes written so far and those still to be written are all bytes
 abbrev pub invariant-loop-field : goal.invariant-loop-field
 invariant-loop-field l =
     l.out.items ++ flat_map bulk_bytes (flat_map arguments_of_field (drop l.field-index l.fields))

@@ -4,7 +4,7 @@ use Rattle.worker_producer.specs.Records.{arguments_of}
 use Rattle.worker_producer.specs.Sentences.{adds_bytes, head_of}
 use Rattle.worker_producer.proofs.batch.append_records.Given as goal
 
--- what is written, and what is still to be written, are the whole
+-- the bytes written so far and those still to be written are all bytes
 abbrev pub invariant-loop-fields : goal.invariant-loop-fields
 invariant-loop-fields l = record {
   number : l.number ≡ l.before + l.fields-index;

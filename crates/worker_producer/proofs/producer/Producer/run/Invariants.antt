@@ -3,7 +3,7 @@ use Rattle.worker_producer.specs.Machine.{idle, standing_of}
 use Rattle.worker_producer.specs.Session.{Rounds}
 use Rattle.worker_producer.proofs.producer.Producer.run.Given as goal
 
--- so many rounds were made
+-- this number of rounds were made
 abbrev pub invariant-loop-round : goal.invariant-loop-round
 invariant-loop-round g l = record {
   settings : l.self.settings ≡ l.fn.self.settings;

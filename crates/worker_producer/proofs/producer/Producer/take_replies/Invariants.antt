@@ -3,7 +3,7 @@ use Rattle.worker_producer.specs.Machine.{standing_of}
 use Rattle.worker_producer.specs.Session.{Hears}
 use Rattle.worker_producer.proofs.producer.Producer.take_replies.Given as goal
 
--- so many replies came, and each was taken
+-- this number of replies were received, and each was taken
 abbrev pub invariant-loop-reply : goal.invariant-loop-reply
 invariant-loop-reply g l = record {
   settings : l.self.settings ≡ l.fn.self.settings;
