@@ -1,4 +1,4 @@
--- Where the whole lines of a file end.
+-- The end of the complete lines of a file.
 use Rattle.std.proofs.Common.{◌≡◌, ◌≢◌, ◌≤◌, ◌<◌, ◌+◌, ◌-◌, inl, inr, ℕ, zero, suc, List, [], ◌∷◌, ◌++◌, length}
 use Rattle.std.proofs.Common.{take, drop, get_or, Option, Some, None, IfSome, refl, sym, ◌∙◌, ap, subst, arith}
 use Rattle.std.proofs.Common.{append_assoc}
@@ -23,13 +23,13 @@ pub none_behind : (xs : List ℕ) → HasNoEnd (drop (length xs) xs)
 none_behind [] = tt
 none_behind (x ∷ xs) = none_behind xs
 
--- one byte further to the front
+-- one byte further to the start
 pub none_more : (xs : List ℕ) (i j : ℕ) → j + 1 ≡ i → j < length xs → get_or xs j 0 ≢ 10 → HasNoEnd (drop i xs)
     → HasNoEnd (drop j xs)
 none_more xs i j is lt other p = subst HasNoEnd (sym (drop_more xs j 0 lt))
     (other, subst (λ k. HasNoEnd (drop k xs)) (sym is) p)
 
--- ---- whole lines
+-- -- complete lines
 
 pub lines_behind : (front xs : List ℕ) → AreLines xs → xs ≢ [] → AreLines (front ++ xs)
 lines_behind front xs (inl none) some = absurd (some none)
@@ -49,7 +49,7 @@ lines_at xs i j is lt end = inr (
 abbrev pub NoneFrom : Option (List ℕ) → ℕ → Type 0
 NoneFrom known at = IfSome known (λ file. (at ≤ length file) × HasNoEnd (drop at file))
 
--- the piece stands there
+-- the piece is at this offset
 abbrev pub StandsAt : Option (List ℕ) → ℕ → ℕ → List ℕ → Type 0
 StandsAt known from len piece = IfSome known (λ file. piece ≡ take len (drop from file))
 
@@ -100,7 +100,7 @@ pub end_at_front : (known : Option (List ℕ)) (at : ℕ) → at ≡ 0 → NoneF
 end_at_front None at is far = tt
 end_at_front (Some file) at is far = (omega arith, inl refl, subst (λ k. HasNoEnd (drop k file)) is far.1)
 
--- ---- each file is whole lines and a last line that has no end
+-- -- each file is complete lines and a last line that has no end
 
 pub record Split (file : List ℕ) : Type 0 where
   pub lines : List ℕ
@@ -142,7 +142,7 @@ same_lines None c is = tt
 same_lines (Some file) c is = let s =
     split file in (s.lines, s.torn, s.torn, s.is, subst (λ f. IsLinesAnd f s.lines s.torn) (sym is) s.is)
 
--- a cut at the end of the whole lines or behind it
+-- a cut at the end of the complete lines or after it
 pub cut_lines : (known : Option (List ℕ)) (end len : ℕ) (c : List ℕ) → EndsAt known end → end ≤ len
     → IfSome known (λ file. c ≡ take len file) → HasTheLines known c
 cut_lines None end len c ends le is = tt
@@ -168,13 +168,13 @@ repaired (Some file) new end ends is = (
   is,
 )
 
--- ---- a front of whole lines
+-- -- a prefix of complete lines
 
 none_after : (xs ys : List ℕ) → HasNoEnd (xs ++ ys) → HasNoEnd ys
 none_after [] ys p = p
 none_after (x ∷ xs) ys p = none_after xs ys p.1
 
--- the last line feed of the front stands before the end of the whole lines
+-- the last line feed of the prefix is before the end of the complete lines
 pub front_ends_before : (front behind : List ℕ) (end : ℕ) → AreLines front → EndsAt (Some (front ++ behind)) end
     → length front ≤ end
 front_ends_before front behind end (inl none) ends = omega (arith, ap length none)
@@ -188,7 +188,7 @@ front_ends_before front behind end (inr ended) ends = elim (cases_lt (length end
       absurd ((none_after (drop end ended.0) (10 ∷ behind) torn).0 refl)
 ]
 
--- a cut behind the front leaves the front
+-- a cut after the prefix leaves the prefix
 pub front_stays : (front d c : List ℕ) (end len : ℕ) → length front ≤ end → end ≤ len → StartsWith front d
     → c ≡ take len d → StartsWith front c
 front_stays front d c end len le cut starts is =

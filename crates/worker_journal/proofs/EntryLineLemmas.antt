@@ -1,4 +1,4 @@
--- The line of an entry tells the entry.
+-- The line of an entry determines the entry.
 use Rattle.std.proofs.Common.{◌≡◌, ℕ, List, [], ◌∷◌, ◌++◌, flat_map, refl, sym, ◌∙◌, ap, arith, append-nil}
 use Rattle.std.proofs.Common.{append_assoc}
 use Rattle.std.specs.List.{AllByRecursion}
@@ -55,12 +55,12 @@ no_tab (x ∷ xs) (y ∷ ys) vs plain same = let tail : xs ≡ ys ++ 9 ∷ vs = 
 same_text : (s t : List ℕ) → escaped s ≡ escaped t → s ≡ t
 same_text s t same = sym (text_back s) ∙ ap unescaped same ∙ text_back t
 
--- ---- a text and the fields behind it
+-- -- a text and the fields after it
 
 abbrev Fields : Type 0
 Fields = List (List ℕ × List ℕ)
 
--- the fields behind a text, as they stand
+-- the fields after a text, as they are written
 behind_is : (p : List ℕ × List ℕ) (ps : Fields)
     → flat_map field_text (p ∷ ps) ≡ 9 ∷ (escaped p.0 ++ (9 ∷ (escaped p.1 ++ flat_map field_text ps)))
 behind_is p ps = ap (λ xs. 9 ∷ xs) (append_assoc (escaped p.0) (9 ∷ escaped p.1) (flat_map field_text ps))

@@ -13,7 +13,7 @@ use Rattle.worker_journal.specs.Log.{BeginsWith}
 use Rattle.worker_journal.proofs.EndLemmas.{front_stays}
 use Rattle.worker_journal.proofs.Moments.{started, goes_on}
 
--- ---- a front stays
+-- -- a prefix stays
 
 pub cut_leaves : (front : List ℕ) (old new : List ℕ → Type 0) (len : ℕ) → length front ≤ len → Follows (IsCut len) old new
     → EachStartsWith front old → EachStartsWith front new
@@ -34,7 +34,7 @@ pub on_err : {T E P : Type 0} (r : Result T E) → P → OnErr r P
 on_err (Ok v) p = tt
 on_err (Err e) p = p
 
--- ---- one run behind another
+-- -- one run after another
 
 pub leaves_both : {D : Type 0} (moment : D → ℕ) (left_since : D → ℕ → List ℕ → Type 0) (old mid new : D)
     (P : List ℕ → Type 0) → LeavesOnly moment left_since old mid P → LeavesOnly moment left_since mid new P
@@ -65,7 +65,7 @@ module _ {D : Type 0} (seen : D → Option (List ℕ)) (may_leave : D → List �
       let held = step lines holds in
       holds_broken lines new len held.committed (known held.known) (left lines held.left)
 
-  -- after a cut behind what is committed
+  -- after a cut at the end of the committed bytes
   pub cut_holds : (lines : List ℕ) (old new : D) (len : ℕ) (is_broken : Bool) → is_broken ≡ true
       → Follows (IsCut len) (may_leave old) (may_leave new) → (IsSome (seen old) → IsSome (seen new))
       → Holds seen may_leave is_sound lines old len is_broken → Holds seen may_leave is_sound lines new len is_broken

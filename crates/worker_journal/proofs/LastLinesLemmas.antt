@@ -39,7 +39,7 @@ count_join (x ∷ xs) ys = elim (cases_eq x 10) [
   | inr other ↦ omega (arith, none_ends x (xs ++ ys) other, none_ends x xs other, count_join xs ys)
 ]
 
--- ---- whole lines before others
+-- -- complete lines before others
 
 first_joins : (x : ℕ) (ls ms : List (List ℕ)) → ls ≢ [] → before_first x (ls ++ ms) ≡ before_first x ls ++ ms
 first_joins x [] ms some = absurd (some refl)
@@ -128,12 +128,12 @@ rest_of n at from more xs piece is within stands =
 
 -- ---- the loop that goes back
 
--- so many lines end behind this place, and so many are left
+-- this number of lines end after this offset, and this number are left
 abbrev pub EndBehind : Option (List ℕ) → ℕ → ℕ → ℕ → ℕ → Type 0
 EndBehind known len at left number =
     IfSome (committed_in known len) (λ bytes. length (lines_of (drop at bytes)) + left ≡ number)
 
--- the piece stands there
+-- the piece is at this offset
 abbrev pub StandsAt : Option (List ℕ) → ℕ → ℕ → List ℕ → Type 0
 StandsAt known from len piece = IfSome known (λ file. piece ≡ take len (drop from file))
 

@@ -1,4 +1,4 @@
--- The lines that a file has, and the front that a crash leaves of it.
+-- The lines of a file, and the prefix that a crash leaves of it.
 use Rattle.std.proofs.Common.{◌≡◌, inr, ℕ, List, [], ◌∷◌, ◌++◌, length, take, drop, Bool, Option, Some, IfSome}
 use Rattle.std.proofs.Common.{sym, ◌∙◌, ap, subst, append_assoc}
 use Rattle.std.proofs.Math.Logic.{∥∥₁_elim}
@@ -10,7 +10,7 @@ use Rattle.worker_journal.specs.Lines.{AreLines, EachStartsWith, HasLine, HasNoE
 
 -- ---- a line among others
 
--- a line more is whole lines
+-- one more line leaves complete lines
 pub one_more : (first line : List ℕ) → AreLines (first ++ (line ++ 10 ∷ []))
 one_more first line = inr (first ++ line, sym (append_assoc first line (10 ∷ [])))
 

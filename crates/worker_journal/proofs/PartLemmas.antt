@@ -1,4 +1,4 @@
--- Bytes from a place on, of what is committed and of what is gathered behind it.
+-- Bytes from an offset on, of the committed bytes and of those that are added after them.
 use Rattle.std.proofs.Common.{◌≡◌, ◌≤◌, ◌+◌, ◌-◌, ◌∙◌, inl, inr, ℕ, zero, suc, List, [], ◌∷◌, ◌++◌, length}
 use Rattle.std.proofs.Common.{take, drop, Option, Some, None, IfSome, refl, sym, ap, arith}
 use Rattle.std.proofs.Math.Seq.{drop-append-add}
@@ -15,7 +15,7 @@ take_over (suc n) (x ∷ xs) ys =
     let less : suc n - suc (length xs) ≡ n - length xs = omega arith in
     ap (λ (zs : List ℕ). x ∷ zs) (take_over n xs ys) ∙ ap (λ (k : ℕ). x ∷ (take n xs ++ take k ys)) (sym less)
 
--- as many as there are, of so many
+-- as many as there are, of this number
 as_many : (n c : ℕ) (xs : List ℕ) → c ≤ n → c ≤ length xs → n - c ≡ n - length xs → take c xs ≡ take n xs
 as_many zero zero xs le within is = refl
 as_many (suc n) zero [] le within is = refl
@@ -25,7 +25,7 @@ as_many (suc n) (suc c) [] le within is = refl
 as_many (suc n) (suc c) (x ∷ xs) le within is =
     ap (λ (ys : List ℕ). x ∷ ys) (as_many n c xs (omega (arith, le)) (omega (arith, within)) (omega (arith, is)))
 
--- the bytes behind the end of the first ones
+-- the bytes after the end of the first ones
 behind_all : (xs ys : List ℕ) (at : ℕ) → length xs ≤ at → drop at (xs ++ ys) ≡ drop (at - length xs) ys
 behind_all xs ys at le =
     let is : at ≡ length xs + (at - length xs) = omega (arith, le) in

@@ -41,7 +41,7 @@ module _ {D : Type 0} (seen : D → Option (List ℕ)) (may_leave : D → List �
     after_sync new kept later = goes_on moment left_since old mid new (HasTheLines (seen old))
         (may_leave new) after_cut later (λ c now. left c (kept c now))
 
--- ---- where only the front of a file is on the disk
+-- -- only a prefix of a file is on the disk
 
 module _ {D : Type 0} (seen : D → Option (List ℕ)) (may_leave : D → List ℕ → Type 0) (moment : D → ℕ)
     (left_since : D → ℕ → List ℕ → Type 0)

@@ -5,7 +5,7 @@ use Rattle.std.specs.Prelude.{◌≡◌, ◌⊎◌, ℕ, ◌≤◌, List, ◌++�
 abbrev pub IsTorn : ℕ → List ℕ → List ℕ → Type 0
 IsTorn n old new = (behind : List ℕ) × (new ≡ old ++ behind) × (length behind ≤ n)
 
--- after a cut that a crash cuts short: some front, not shorter than what was asked for
+-- after a cut that a crash cuts short: some prefix, not shorter than the requested length
 abbrev pub IsCut : ℕ → List ℕ → List ℕ → Type 0
 IsCut n old new = (len : ℕ) × (n ≤ len) × (new ≡ take len old)
 

@@ -29,10 +29,10 @@ unescaped (b ∷ c ∷ rest) = if b == 92 then byte_of c ∷ unescaped rest else
 abbrev pub IsPlain : ℕ → Type 0
 IsPlain b = (b ≢ 9) × (b ≢ 10) × (b ≢ 13)
 
--- a text comes back out of its line
+-- a text is read back out of its line
 abbrev pub TextsComeBack : Type 0
 TextsComeBack = (text : List ℕ) → unescaped (escaped text) ≡ text
 
--- no text has a tab or an end of a line in it once it is escaped
+-- an escaped text has no tab and no end of a line in it
 abbrev pub TextsArePlain : Type 0
 TextsArePlain = (text : List ℕ) → AllByRecursion IsPlain (escaped text)

@@ -1,4 +1,4 @@
--- What a log holds: the lines that are committed, whatever crash comes.
+-- The lines of a log that are committed, whatever crash happens.
 use Rattle.std.specs.Prelude.{◌≡◌, ℕ, List, ◌++◌, length, Bool, false, Option, Some, IsSome, IfSome, option_map}
 use Rattle.std.specs.Prelude.{take, if◌then◌else◌}
 use Rattle.worker_journal.specs.Device.{Only}
@@ -13,7 +13,7 @@ abbrev pub with_more : List ℕ → Option (List ℕ) → Option (List ℕ)
 with_more more known = option_map (λ lines. lines ++ more) known
 
 module _ {D : Type 0} (seen : D → Option (List ℕ)) (may_leave : D → List ℕ → Type 0) (is_sound : D → Type 0) where
-  -- the file is these lines and nothing else, here and on the disk
+  -- the file is these lines and nothing else, in a read and on the disk
   pub record IsWhole (file : D) (lines : List ℕ) : Type 0 where
     pub all : seen file ≡ Some lines
     pub disk : Only lines (may_leave file)
@@ -32,6 +32,6 @@ module _ {D : Type 0} (seen : D → Option (List ℕ)) (may_leave : D → List �
   IsHeld file len is_broken =
       IfSome (committed_in (seen file) len) (λ lines. Holds lines file len is_broken)
 
--- what a read returns once what a failed commit left is cut off
+-- what a read returns after the rest of a failed commit was cut off
 abbrev pub cut_back : Bool → ℕ → Option (List ℕ) → Option (List ℕ)
 cut_back is_broken len known = if is_broken then option_map (λ bytes. take len bytes) known else known

@@ -8,7 +8,7 @@ abbrev pub before_first : ℕ → List (List ℕ) → List (List ℕ)
 before_first b [] = []
 before_first b (l ∷ ls) = (b ∷ l) ∷ ls
 
--- the lines, without line feeds; bytes after the last one are no line
+-- the lines, without line feeds; bytes after the last line feed are not a line
 abbrev pub lines_of : List ℕ → List (List ℕ)
 lines_of [] = []
 lines_of (b ∷ bs) = if b == 10 then [] ∷ lines_of bs else before_first b (lines_of bs)

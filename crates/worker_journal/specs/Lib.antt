@@ -1,4 +1,4 @@
--- What a log's contracts speak of.
+-- The definitions that a log's contracts use.
 pub mod Device
 pub mod Lines
 pub mod Escape

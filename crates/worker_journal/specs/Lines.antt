@@ -6,7 +6,7 @@ use Rattle.std.specs.List.{AllByRecursion}
 abbrev pub HasNoEnd : List ℕ → Type 0
 HasNoEnd bytes = AllByRecursion (λ b. b ≢ 10) bytes
 
--- whole lines: nothing, or bytes that end with a line feed
+-- complete lines: no bytes, or bytes that end with a line feed
 abbrev pub AreLines : List ℕ → Type 0
 AreLines bytes = (bytes ≡ []) ⊎ ((front : List ℕ) × (bytes ≡ front ++ 10 ∷ []))
 
@@ -18,7 +18,7 @@ StartsWith front bytes = (behind : List ℕ) × (bytes ≡ front ++ behind)
 abbrev pub EachStartsWith : List ℕ → (List ℕ → Type 0) → Type 0
 EachStartsWith front outcomes = (c : List ℕ) → outcomes c → StartsWith front c
 
--- the bytes have this line: whole lines before it, and its end after it
+-- the bytes have this line: complete lines before it, and its end after it
 pub record HasLine (line bytes : List ℕ) : Type 0 where
   pub before : List ℕ
   pub rest : List ℕ
@@ -26,22 +26,22 @@ pub record HasLine (line bytes : List ℕ) : Type 0 where
   pub whole : AreLines before
   pub one_line : HasNoEnd line
 
--- the file is these whole lines, and after them a last line that has no end
+-- the file is these complete lines, and after them a last line that has no end
 pub record IsLinesAnd (file lines torn : List ℕ) : Type 0 where
   pub split : file ≡ lines ++ torn
   pub whole : AreLines lines
   pub torn_line : HasNoEnd torn
 
--- the first n bytes of the known file are whole lines, and no line ends after them
+-- the first n bytes of the known file are complete lines, and no line ends after them
 abbrev pub EndsAt : Option (List ℕ) → ℕ → Type 0
 EndsAt known end = IfSome known (λ file. (end ≤ length file) × AreLines (take end file) × HasNoEnd (drop end file))
 
--- the known file was cut after its last whole line
+-- the known file was cut after its last complete line
 abbrev pub IsRepaired : Option (List ℕ) → Option (List ℕ) → Type 0
 IsRepaired old new =
     IfSome old (λ file. (lines : List ℕ) × (torn : List ℕ) × IsLinesAnd file lines torn × (new ≡ Some lines))
 
--- a crash left the same whole lines, and after them at most a last line that has no end
+-- a crash left the same complete lines, and after them at most a last line that has no end
 abbrev pub HasTheLines : Option (List ℕ) → List ℕ → Type 0
 HasTheLines old c = IfSome old (λ file. (lines : List ℕ) × (torn : List ℕ) × (left : List ℕ)
     × IsLinesAnd file lines torn × IsLinesAnd c lines left)

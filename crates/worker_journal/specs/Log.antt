@@ -1,9 +1,9 @@
--- What a log's file has.
+-- The content of a log's file.
 use Rattle.worker_journal.specs.declared.error.LogError.{LogError}
 use Rattle.worker_journal.specs.declared.error.LogError.TheVariants.{Memory, File}
 use Rattle.std.specs.Prelude.{◌≡◌, ◌≤◌, ℕ, List, ◌++◌, length, Option, IfSome}
 
--- a crash left what the known file had, and after it at most as many bytes as were written
+-- a crash left the content of the known file, and after it at most as many bytes as were written
 abbrev pub BeginsWith : Option (List ℕ) → List ℕ → List ℕ → Type 0
 BeginsWith old batch c = IfSome old (λ file. (behind : List ℕ) × (c ≡ file ++ behind) × (length behind ≤ length batch))
 

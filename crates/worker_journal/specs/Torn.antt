@@ -1,4 +1,4 @@
--- A file that tears: what each crash leaves, and what waits to be synced.
+-- A file that tears: the bytes that each crash leaves, and the unsynced bytes.
 use Rattle.std.specs.Prelude.{◌≡◌, ◌≤◌, ◌+◌, ◌⊎◌, ℕ, List, [], ◌∷◌, ◌++◌, length, take, drop}
 use Rattle.std.proofs.Common.{inl, inr, zero, refl, arith}
 use Rattle.worker_journal.specs.declared.torn.Content.{Content}
@@ -11,19 +11,19 @@ all_of content = content.front.items ++ content.waits.items
 abbrev pub room_of : Content → ℕ
 room_of content = length content.waits.items + content.extra
 
--- a crash leaves the front, perhaps some of what was cut off after it, and any bytes for which there is room
+-- a crash leaves the synced prefix, perhaps some of what was cut off after it, and any bytes for which there is room
 abbrev pub Leaves : Content → List ℕ → Type 0
 Leaves content c = (uncut : ℕ) × (behind : List ℕ)
     × (c ≡ content.front.items ++ (take uncut content.cut_off.items ++ behind)) × (length behind ≤ room_of content)
 
--- all of it is on the disk: nothing waits, and nothing was cut off that a crash could bring back
+-- all of it is on the disk: no byte is unsynced, and nothing was cut off that a crash could bring back
 pub record IsSynced (content : Content) (bytes : List ℕ) : Type 0 where
   pub front : content.front.items ≡ bytes
   pub cut_off : content.cut_off.items ≡ []
   pub waits : content.waits.items ≡ []
   pub extra : content.extra ≡ 0
 
--- the same bytes in the same places
+-- the same content
 pub record IsCopy (content copy : Content) : Type 0 where
   pub front : copy.front.items ≡ content.front.items
   pub cut_off : copy.cut_off.items ≡ content.cut_off.items
@@ -47,7 +47,7 @@ none_left : (past : List Content) (c : List ℕ) → HadLeft (drop (length past)
 none_left [] c had = had
 none_left (content ∷ past) c had = none_left past c had
 
--- since the last of these moments there is what there is now
+-- since the last of these moments there was only the current content
 pub only_now : (past : List Content) (now : Content) (c : List ℕ) → LeftSince past now (length past) c → Leaves now c
 only_now past now c (inl left) = left
 only_now past now c (inr had) = absurd (none_left past c had)

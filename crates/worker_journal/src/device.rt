@@ -74,11 +74,11 @@ pub trait LogFile {
     /// A crash may leave what a read returns.
     ghost seen_is_left: { (file : Self) → IfSome (seen file) (may_leave file) };
 
-    /// This moment is one of those since an earlier one.
+    /// The current moment counts among those since an earlier one.
     ghost counts_now: { (file : Self) (t : ℕ) (c : List ℕ) → t ≤ moment file
         → may_leave file c → left_since file t c };
 
-    /// Since this moment there is no other.
+    /// Since this moment there was no other.
     ghost only_now: { (file : Self) (c : List ℕ) → left_since file (moment file) c
         → may_leave file c };
 }

@@ -1,8 +1,8 @@
 //! The ids of the entries in a file of lines.
 //!
 //! `KnownIds` holds ids in the order of their numbers, each with the offset of its line: 24 bytes for each. An
-//! id above all of them is new at once; any other is found by binary search. `numbers_of_file` reads a file
-//! from its start, and returns the ids of its whole lines.
+//! id above all of them is new without a search; any other is found by binary search. `numbers_of_file` reads a
+//! file from its start, and returns the ids of its complete lines.
 
 mod file;
 mod head;

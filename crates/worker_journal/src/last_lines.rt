@@ -14,7 +14,7 @@ use std::mem;
 const PIECE: usize = 65_536;
 
 /// The last `number` lines of the first `len` bytes of a file, in order, without line feeds; all lines if there
-/// are fewer. Bytes after the last line feed are no line.
+/// are fewer. Bytes after the last line feed are not a line.
 pub fn last_lines_in<D: LogFile>(
     alloc: Global,
     file: &D,
@@ -52,7 +52,7 @@ fn find_last_start<D: LogFile>(
     Ok(0)
 }
 
-/// Where the last `left` lines of these bytes begin, if the end of a line is before them. If not, the lines
+/// The offset of the last `left` lines of these bytes, if the end of a line is before them. If not, the lines
 /// that end among these bytes are subtracted from `left`.
 fn start_within(bytes: &[u8], left: &mut usize) -> Option<usize>
     ensures within { IfSome result (λ at. (0 < at) × (at ≤ length bytes.now)) }
@@ -95,7 +95,7 @@ fn lines_from<D: LogFile>(
     Ok(lines)
 }
 
-/// Takes more bytes of a file: the lines that they end, and the start of the next one.
+/// Takes more bytes of a file: appends the lines that they end, and keeps the start of the next one.
 fn take_bytes(
     alloc: Global,
     lines: &mut Vec<Vec<u8>>,

@@ -2,8 +2,8 @@
 ghost use Rattle.worker_journal.specs.EntryLine.{LinesAreWhole, LinesTellEntries};
 ghost use Rattle.worker_journal.specs.Escape.{TextsArePlain, TextsComeBack};
 
-/// A text comes back out of its line, and no text has a tab or an end of a line in it once it is
-/// escaped. So a line that is split at its tabs gives its texts.
+/// A text that is escaped can be read back, and an escaped text has no tab and no end of a line in
+/// it. So a line that is split at its tabs gives its texts.
 pub fn texts_come_back()
     ensures back { TextsComeBack }
     ensures plain { TextsArePlain }

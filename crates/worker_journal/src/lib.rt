@@ -1,4 +1,4 @@
-//! A file of lines that a crash does not take back.
+//! A file of lines that a crash does not undo.
 //!
 //! Lines are gathered, and `commit` makes one write and one sync of them. Once it has returned Ok,
 //! a crash at any moment leaves a file that begins with all lines that were committed. Opening the

@@ -32,7 +32,7 @@ pub struct LineLog<D: LogFile + Drop> {
 impl<D: LogFile + Drop> LineLog<D> {
     /// Opens a log over this file, whose last line is repaired first.
     ///
-    /// A crash at any moment of it leaves each whole line that is on the disk: so lines that were committed
+    /// A crash at any moment of it leaves each complete line that is on the disk. So lines that were committed
     /// stay, even if a process was killed before the end of its last batch was on the disk.
     pub fn open(alloc: Global, file: D) -> Result<LineLog<D>, LogError>
         ensures file { IfOk result (λ log. IsRepaired (D.seen file) (D.seen log.file)) }
@@ -76,7 +76,7 @@ impl<D: LogFile + Drop> LineLog<D> {
     /// Writes the lines that were added, and syncs them to the disk: one write and one sync.
     ///
     /// After an Ok every crash leaves a file that begins with what it had before and these lines. A crash at
-    /// any moment of the call leaves what the file had before, and after it at most as many bytes as these
+    /// any moment of the call leaves what the file had before, followed by at most as many bytes as these
     /// lines have. After an `Err` what was committed before stays, and the next commit writes these lines too.
     pub fn commit(&mut self) -> Result<(), LogError>
         ensures holds { OnOk result ((lines : List ℕ)

@@ -23,7 +23,7 @@ fn last_end(bytes: &[u8]) -> usize
     end
 }
 
-/// How many bytes of a file are whole lines. It reads from the end, and no further than the last
+/// How many bytes of a file are complete lines. It reads from the end, and no further than the last
 /// line feed.
 fn measure_lines<D: LogFile>(alloc: Global, file: &D) -> Result<usize, LogError>
     ensures { IfOk result (EndsAt (D.seen file.now)) }
@@ -63,9 +63,9 @@ pub fn repaired_len<D: LogFile>(alloc: Global, file: &mut D) -> Result<usize, Lo
 
 /// Cuts off a last line without a line feed, and syncs what is left to the disk.
 ///
-/// A crash at any moment of it leaves the whole lines that were there, if all of the file is on the disk. After
-/// a process was killed, only the front of the file may be: then every crash leaves that front, if it is whole
-/// lines.
+/// A crash at any moment of it leaves the complete lines that were there, if all of the file is on the disk. After
+/// a process was killed, only a prefix of the file may be: then every crash leaves that prefix, if it consists of
+/// complete lines.
 pub fn repair<D: LogFile>(alloc: Global, file: &mut D) -> Result<(), LogError>
     ensures repaired { OnOk result (IsRepaired (D.seen file.old) (D.seen file.new)) }
     ensures on_disk { OnOk result (D.is_sound file.old → IsOnDisk D.seen D.may_leave file.new) }

@@ -14,8 +14,8 @@ use std::rt::Files;
 
 /// A file of the system, which no other log has open.
 ///
-/// No contract can say what the system writes or keeps, so its clauses claim nothing. That it is a file as
-/// `LogFile` says is trusted. Each method makes one system call, except that short reads and writes are
+/// No contract can state what the system writes or keeps, so its clauses claim nothing. That it is a file as
+/// `LogFile` requires is trusted. Each method makes one system call, except that short reads and writes are
 /// continued.
 #[derive(Drop)]
 pub struct SystemFile {
@@ -24,7 +24,7 @@ pub struct SystemFile {
 
 impl SystemFile {
     /// Opens the file of this path, and creates it if it does not exist. The error is of the kind
-    /// `WouldBlock` if another process has the file open as a log, and its text says so.
+    /// `WouldBlock` if another process has the file open as a log, with a text about that.
     pub fn open<R: Files<File = File>>(rt: &R, path: &str) -> Result<SystemFile, LogError>
         ensures { IfErr result IsOfTheSystem }
     {

@@ -12,27 +12,27 @@ use std::io::{self, ErrorKind};
 
 /// A file in memory that buffers what is appended until a sync, and tears in a crash.
 ///
-/// The caller says what a crash leaves of what was not synced: any bytes, at most as many as were written. A
-/// sync can be made to fail. Then what waits is never written to the disk, and each later sync returns Ok all
-/// the same, as some systems do, until the file is cut back to what is on the disk.
+/// The caller chooses what a crash leaves of what was not synced: any bytes, at most as many as were written. A
+/// sync can be made to fail. Then the unsynced bytes are never written to the disk, and each later sync returns Ok
+/// all the same, as some systems do, until the file is cut back to what is on the disk.
 #[derive(Drop)]
 pub struct TornFile {
     alloc: Global,
     content: Content,
     is_sound: bool,
-    /// The sync of this number fails, counted from now on; 0 if none does.
+    /// The sync with this number fails, counted from now on; 0 if none does.
     failing: usize,
     past: Vec<Content>,
 }
 
-/// What each crash leaves, and what one may leave.
+/// The bytes that each crash leaves, and those that one may leave.
 #[derive(Drop)]
 struct Content {
-    /// What each crash leaves.
+    /// The bytes that each crash leaves.
     front: Vec<u8>,
-    /// What was cut off after it since the last sync.
+    /// The bytes that were cut off after them since the last sync.
     cut_off: Vec<u8>,
-    /// What was appended since the last sync.
+    /// The bytes that were appended since the last sync.
     waits: Vec<u8>,
     /// How many bytes were appended and cut off again since the last sync.
     extra: usize,
@@ -97,7 +97,7 @@ impl Content {
         Ok(next)
     }
 
-    /// A copy cut to a length. A cut into what is on the disk drops all that waits.
+    /// A copy cut to a length. A cut into the bytes on the disk drops all unsynced bytes.
     fn cut(&self, alloc: Global, len: usize) -> Result<Content, AllocError>
         ensures seen { IfOk result (λ next. all_of next ≡ take len (all_of self.now)) }
         ensures crash { IfOk result (λ next. Follows (IsCut len) (Leaves self.now) (Leaves next)) }
@@ -109,7 +109,7 @@ impl Content {
         }
     }
 
-    /// A copy whose bytes on the disk are cut to this length. What was after that may still be on the disk.
+    /// A copy whose bytes on the disk are cut to this length. The bytes after that may still be on the disk.
     fn cut_front(&self, alloc: Global, len: usize) -> Result<Content, AllocError>
         requires { len ≤ length self.now.front.items }
         ensures seen { IfOk result (λ next. all_of next ≡ take len (all_of self.now)) }
@@ -126,7 +126,7 @@ impl Content {
         })
     }
 
-    /// A copy with the first `len` of the bytes that wait. Those after them may still be written to the disk.
+    /// A copy with the first `len` of the unsynced bytes. Those after them may still be written to the disk.
     fn cut_waits(&self, alloc: Global, len: usize) -> Result<Content, AllocError>
         ensures seen { IfOk result (λ next. all_of next
             ≡ take (length self.now.front.items + len) (all_of self.now)) }
@@ -175,14 +175,14 @@ impl TornFile {
         }
     }
 
-    /// Makes the sync of this number fail, counted from now on; 0 for none.
+    /// Makes the sync with this number fail, counted from now on; 0 for none.
     pub fn fail_sync(&mut self, number: usize)
         ensures { self.new ≡ record self.old { failing = number } }
     {
         self.failing = number;
     }
 
-    /// What each crash leaves: the bytes that were synced and not cut off.
+    /// The bytes that each crash leaves: those that were synced and not cut off.
     pub fn on_disk(&self) -> &[u8]
         ensures { result.now ≡ self.now.content.front.items }
     {

@@ -32,7 +32,7 @@ found_is ids n (Err i) found = sym (has_none ids n (λ k lt same. elim (cases_lt
   | inr later ↦ omega (arith, found.2 k later lt, same)
 ]))
 
--- and its line begins where the id that was found says
+-- and its line begins at the offset of the id that was found
 pub place_is : (ids : List KnownId) (i n : ℕ) (id : KnownId) → i < length ids → number_at ids i ≡ n → get_or ids i no_id ≡ id
     → has_at (places_in ids) n id.place ≡ true
 place_is [] i n id lt is there = absurd (omega (arith, lt))

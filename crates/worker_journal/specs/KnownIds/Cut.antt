@@ -6,10 +6,10 @@ use Rattle.std.specs.List.{prefix_len}
 abbrev pub is_other : ℕ → ℕ → Bool
 is_other end b = not (b == end)
 
--- what is before the first such byte, and all if there is none
+-- the bytes before the first such byte, and all bytes if there is none
 abbrev pub before : ℕ → List ℕ → List ℕ
 before end text = take (prefix_len (is_other end) text) text
 
--- what is from there on
+-- the bytes from there on
 abbrev pub from : ℕ → List ℕ → List ℕ
 from end text = drop (prefix_len (is_other end) text) text

@@ -29,7 +29,7 @@ has places n = list_any (λ p. p.0 == n) places
 abbrev pub has_at : List Place → ℕ → ℕ → Bool
 has_at places n at = list_any (λ p. (p.0 == n) && (p.1 == at)) places
 
--- so is the number of an id, if it has one
+-- the number of an id is one of these, if the id has one
 abbrev pub has_number : List Place → Option ℕ → Bool
 has_number places None = false
 has_number places (Some n) = has places n
@@ -38,11 +38,11 @@ has_number places (Some n) = has places n
 abbrev pub knows : List Place → List ℕ → Bool
 knows places id = has_number places (number_of id)
 
--- these are one more
+-- these are the same numbers and this one
 abbrev pub HasOneMore : List Place → List Place → ℕ → Type 0
 HasOneMore old new number = (n : ℕ) → has new n ≡ (number == n || has old n)
 
--- and its line begins there; each other line where it did
+-- these are the same numbers with their offsets, and this one with its offset
 abbrev pub HasPlaceToo : List Place → List Place → ℕ → ℕ → Type 0
 HasPlaceToo old new number place =
     (n at : ℕ) → has_at new n at ≡ (((number == n) && (place == at)) || has_at old n at)
@@ -51,11 +51,11 @@ HasPlaceToo old new number place =
 abbrev pub HasRoom : Vec KnownId Global → Type 0
 HasRoom ids = vec_len ids < vec_capacity ids
 
--- no id, where there is none
+-- the id that is read past the end of a list
 abbrev pub no_id : KnownId
 no_id = record { ms = 0; seq = 0; place = 0 }
 
--- the number at a place of the list
+-- the number at an index of the list
 abbrev pub number_at : List KnownId → ℕ → ℕ
 number_at ids i = number_in (get_or ids i no_id)
 
@@ -65,7 +65,7 @@ IsFound ids n r = MatchResult r (λ i. (i < length ids) × (number_at ids i ≡ 
     (λ i. (i ≤ length ids) × ((k : ℕ) → k < i → number_at ids k < n)
     × ((k : ℕ) → i ≤ k → k < length ids → n < number_at ids k))
 
--- no number before this place is greater, and none from there on is smaller
+-- no number before this index is greater, and none from there on is smaller
 pub record IsGap (ids : List KnownId) (n at : ℕ) : Type 0 where
   pub within : at ≤ length ids
   pub before : (k : ℕ) → k < at → number_at ids k ≤ n

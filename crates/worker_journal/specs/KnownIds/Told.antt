@@ -1,4 +1,4 @@
--- The ids of lines, and where the lines begin.
+-- The ids of lines, and the offsets of the lines.
 use Rattle.std.specs.Prelude.{◌≡◌, ◌+◌, ℕ, suc, List, [], ◌∷◌, ◌++◌, take, drop, length, codes, ◌&&◌, Bool, true, false, Option, Some, None}
 use Rattle.std.specs.Prelude.{if◌then◌else◌, option_and_then, option_map}
 use Rattle.std.specs.Str.{bytes_eq}
@@ -8,21 +8,21 @@ use Rattle.worker_journal.specs.KnownIds.Cut.{before, from}
 use Rattle.worker_journal.specs.KnownIds.Known.{Place}
 use Rattle.worker_journal.specs.KnownIds.Number.{number_of}
 
--- the text begins so
+-- the text begins with this prefix
 abbrev pub begins : List ℕ → List ℕ → Bool
 begins head text = bytes_eq (take (length head) text) head
 
--- the id in a line of JSON, and none if it is of another form
+-- the id in a line of JSON, and none if it has another form
 abbrev pub id_of_json : List ℕ → Option (List ℕ)
 id_of_json line = if begins (codes "{\"id\":\"") line && begins (codes "\",\"fields\":[") (from 34 (drop 7 line))
     then Some (before 34 (drop 7 line)) else None
 
--- the number of the id at the head of a line: of JSON, or of texts that tabs separate
+-- the number of the id at the start of a line: of JSON, or of texts that tabs separate
 abbrev pub line_number : Bool → List ℕ → Option ℕ
 line_number true line = option_and_then number_of (id_of_json line)
 line_number false line = number_of (before 9 line)
 
--- with the number of this line, which begins there
+-- prepends the number of a line, which begins at this offset
 abbrev pub and_told : ℕ → Option ℕ → Option (List Place) → Option (List Place)
 and_told at None places = None
 and_told at (Some n) places = option_map (λ rest. (n, at) ∷ rest) places
@@ -37,7 +37,7 @@ told json at (line ∷ lines) = and_told at (line_number json line) (told json (
 abbrev pub told_too : Bool → List Place → ℕ → List ℕ → Option (List Place)
 told_too json places at bytes = option_map (λ more. places ++ more) (told json at (lines_of bytes))
 
--- of a line that has begun and the bytes after it, the ids of the lines that ended were taken, and these bytes are
+-- of a line that has started and the bytes after it, the ids of the lines that ended were taken, and these bytes are
 -- left
 pub record Took (json : Bool) (old : List Place) (start : ℕ) (line bytes : List ℕ) (new : List Place) (next : ℕ)
     (begun left : List ℕ) : Type 0 where

@@ -28,7 +28,7 @@ pub enum FileError {
 }
 
 /// The numbers of the ids of the lines of a file, in order, and the offset of each line. Bytes after the last
-/// line feed are no line. The file is read from its start, in pieces.
+/// line feed are not a line. The file is read from its start, in pieces.
 pub fn numbers_of_file<D: LogFile>(
     alloc: Global,
     file: &D,
@@ -51,7 +51,7 @@ pub fn numbers_of_file<D: LogFile>(
     Ok(ids)
 }
 
-/// Takes more bytes of a file: the ids of the lines that they end. The start of the next line is kept.
+/// Takes more bytes of a file: appends the ids of the lines that they end. The start of the next line is kept.
 fn take_piece(
     ids: &mut Vec<KnownId>,
     start: &mut usize,

@@ -2,7 +2,7 @@ use Rattle.std.proofs.Common.{◌≡◌, ◌≤◌, ◌+◌, length, drop}
 use Rattle.worker_journal.specs.LastLines.{lines_of}
 use Rattle.worker_journal.proofs.last_lines.start_within.Given as goal
 
--- those that end behind this place, and those that are left
+-- those that end after this index, and those that are left
 abbrev pub invariant-loop-at : goal.invariant-loop-at
 invariant-loop-at l = record {
   within : l.at ≤ length l.bytes;
