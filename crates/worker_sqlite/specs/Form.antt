@@ -27,7 +27,7 @@ null_text optional = if optional then codes "" else codes " NOT NULL"
 abbrev pub column_text : Column → List ℕ
 column_text c = quoted (string_bytes c.name) ++ (kind_text c.kind ++ (null_text c.optional ++ codes ", "))
 
--- a column in a condition: its value is the next one that is given, or there is none and none is given
+-- a column in a condition: its value is the next given one, or both are null
 abbrev pub condition_text : Column → List ℕ
 condition_text c = codes " AND " ++ (quoted (string_bytes c.name) ++ codes " IS ?")
 

@@ -1,4 +1,4 @@
--- The statements of an outbox, and what a database makes of them.
+-- The statements of an outbox, and their effects on a database.
 use Rattle.std.specs.Prelude.{ℕ, ◌≡◌, ◌≢◌, ◌⊎◌, Bool, true, false, List, [], ◌∷◌, ◌++◌, Ok, Err, Option, Some, None, codes, pos}
 use Rattle.sqlite.specs.Order.{Row as SqlRow, column}
 use Rattle.sqlite.specs.Store.{Ghosts}
@@ -30,7 +30,7 @@ count_text = codes "SELECT count(*) FROM outbox"
 abbrev pub remove_text : List ℕ
 remove_text = codes "DELETE FROM outbox WHERE milliseconds = ?1 AND sequence = ?2"
 
--- a number that is not below zero, as a value of SQL
+-- a number that is not negative, as a value of SQL
 abbrev pub number_value : ℕ → Value
 number_value n = Int (pos n)
 

@@ -1,4 +1,4 @@
--- The statements that a table runs, and what a database makes of them.
+-- The statements that a table runs, and their effects on a database.
 use Rattle.std.specs.Prelude.{ℕ, ◌==◌, ◌≡◌, ◌⊎◌, List, [], ◌∷◌, ◌++◌, Bool, true, false, map, Ok, Err, Option, Some, None, Result, codes, pos}
 use Rattle.sqlite.specs.Order.{Row as SqlRow, column}
 use Rattle.sqlite.specs.Store.{Ghosts}
@@ -19,7 +19,7 @@ use Rattle.worker_sqlite.specs.declared.error.OpenError.TheVariants as opening
 abbrev pub IsNamed : TableError → Type 0
 IsNamed e = (e ≡ Memory) ⊎ ((why : _) × (e ≡ Refused why))
 
--- or the table that is there is another one
+-- the same, or another table of this name exists
 abbrev pub IsNamedAtOpening : OpenError → Type 0
 IsNamedAtOpening (opening.Table e) = IsNamed e
 IsNamedAtOpening (opening.Another there) = Unit {0}
@@ -52,7 +52,7 @@ module _ {S : Type 0} (g : Ghosts S) (old new : Held S) where
   abbrev pub Ran : List ℕ → SqlRow → ℕ → Type 0
   Ran sql values count = HasCleanDisk (state g new) → Executes sql values (state g old) (state g new) (Ok count)
 
-  -- and whether it was one row
+  -- the database ran this statement with these values, and `one` is whether it changed one row
   abbrev pub RanOne : List ℕ → SqlRow → Bool → Type 0
   RanOne sql values one = (count : ℕ) × (one ≡ (count == 1)) × Ran sql values count
 

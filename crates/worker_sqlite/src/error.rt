@@ -10,10 +10,10 @@ use worker_table::row_table::TableError;
 /// Why a table was not opened.
 #[derive(Debug, Drop, Error)]
 pub enum OpenError {
-    /// Memory ran out, or an error of the database.
+    /// Memory ran out, or the database returned an error.
     #[error("{0}")]
     Table(TableError),
-    /// Another table or view of this name is there: the SQL that made it.
+    /// Another table or view of this name exists; this is the SQL that created it.
     #[error("its table is another one: {0}")]
     Another(String),
 }

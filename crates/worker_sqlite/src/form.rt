@@ -228,7 +228,7 @@ fn kind(kind: Kind) -> &'static str
     }
 }
 
-/// The constraint of a column, by the constraint of a column, by whether a row may have no value there.
+/// The constraint of a column, by whether a row may have no value there.
 fn null(optional: bool) -> &'static str
     ensures { result.now ≡ null_text optional }
 {

@@ -1,7 +1,7 @@
 //! A table of rows in a SQLite file, which sqlite3 reads.
 //!
-//! The key of a row is in the columns `milliseconds` and `sequence`. The other columns are what the `Form` of
-//! the table says: of `Form::usual` the one column `fields`, of a table `entries`.
+//! The key of a row is in the columns `milliseconds` and `sequence`. The other columns are those of the `Form` of
+//! the table: for `Form::usual` the one column `fields`, of a table `entries`.
 //!
 //! `SqliteOutbox` is such a table with an outbox, the table `outbox` of the same file.
 #![tactic(auto)]

@@ -236,7 +236,7 @@ fn malformed_error() -> TableError
     TableError::Refused("the database is malformed")
 }
 
-/// The error for another table of this name: the SQL that made it.
+/// The error for another table of this name, with the SQL that created it.
 fn another(text: Vec<u8>) -> OpenError
     ensures { IsNamedAtOpening result }
 {

@@ -72,7 +72,7 @@ pub fn values_of_key<'a>(
     Ok(values)
 }
 
-/// The key of a row, and what is sent for it.
+/// The key of a row, and the commands of its post.
 pub fn values_of_post<'a>(
     alloc: Global,
     row: &'a PostedRow,

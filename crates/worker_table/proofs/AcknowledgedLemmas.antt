@@ -52,7 +52,7 @@ heard_keeps w g (Some no_group) vs = refl
 heard_keeps w g (Some group_made) vs = refl
 
 module _ (settings : Settings) where
-  -- what is committed as it asks
+  -- the rows that are committed once its request is made
   abbrev committed_then : Standing Kept → Option (List Row)
   committed_then w = (asking committed_with settings w).history.committed
 
@@ -76,7 +76,7 @@ module _ (settings : Settings) where
     | inr c ↦ ap (λ (k : Kept). k.committed) c.took.history ∙ all_keep r (told_in (entries_in c.answer) c.took.verdicts)
   ]
 
-  -- what is committed after a round that failed: what was before, or what was as it asked
+  -- the rows that are committed after a failed round: those before it, or those once its request was made
   unasked_keeps : (w : Standing Kept) (n : Machine) (s : Kept) (e : RequestError)
       → Unasked committed_with w.machine n w.history s e
       → (s.committed ≡ w.history.committed) ⊎ (s.committed ≡ committed_then w)
@@ -129,7 +129,7 @@ pub some_is : (a b : List Row) → Some a ≡ Some b → a ≡ b
 some_is a b e = ap (λ (o : Option (List Row)). elim o [ None ↦ a | Some rows ↦ rows ]) e
 
 module _ (settings : Settings) (columns : List Column) (gone : List Id) where
-  -- what a worker asks to acknowledge is there as it asks
+  -- each id that a worker acknowledges is there once its request is made
   asked_there : (first : List Row) (w : Standing Kept) (deleted : List Id) → LivesSo settings (columns, Some first) w deleted
       → ((id : Id) → Among id deleted → Among id gone) → (rows : List Row) → committed_then settings w ≡ Some rows
       → (id : Id) → Among id (acknowledges settings w) → IsThere rows id ⊎ Among id gone
@@ -142,7 +142,7 @@ module _ (settings : Settings) (columns : List Column) (gone : List Id) where
       ⊎_elim (λ a. inl (subst (λ (rs : List Row). IsThere rs id) all (among_there columns first d.committed (id, a.0) a.1)))
       (λ out. inr (says id out)) (only_committed settings (with_doings w l.doings) deleted l.lives id among)
 
-  -- the worker lives so, and what it was told is gone
+  -- the worker is in such a round of its life, and the ids that were reported to it are gone
   record IsLived (first : List Row) (w : Standing Kept) (deleted : List Id) : Type 0 where
     lives : LivesSo settings (columns, Some first) w deleted
     says : (id : Id) → Among id deleted → Among id gone

@@ -25,7 +25,7 @@ use Rattle.worker_table.proofs.KeptLemmas.{each_commit, each_verdict, with_none}
 pub rows_picture : IsPicture kept_of kept_too committed_with
 rows_picture = record { verdict = each_verdict; commit = each_commit }
 
--- what is kept as a worker asks
+-- the rows that are kept once a worker's request is made
 pub commit_of : (settings : Settings) (first : Beginning) (m : Machine) (d : Doings)
     → history_at_request committed_with m (kept_of first d) ≡ kept_of first (history_at_request committed_too m d)
 commit_of settings first m d = shown.commit_of kept_too committed_with kept_of rows_picture settings first m d

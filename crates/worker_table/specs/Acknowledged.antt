@@ -1,4 +1,4 @@
--- What is acknowledged is a row, over every schedule of rounds, crashes and restarts.
+-- Each acknowledged id is a row, over every schedule of rounds, crashes and restarts.
 use Rattle.std.specs.Prelude.{◌≡◌, ◌⊎◌, List, [], ◌++◌, Some, IsSome}
 use Rattle.redis_connection.specs.Link.{Link}
 use Rattle.worker_table.specs.declared.row_table.cell.Column.{Column}
@@ -18,20 +18,20 @@ use Rattle.worker_table.specs.Lived.{LivesSo, newborn_with}
 abbrev pub IsThere : List Row → Id → Type 0
 IsThere rows id = IsSome (find (key_in id) rows)
 
--- what a worker acknowledges next
+-- the ids that a worker acknowledges next
 abbrev pub acknowledges : Settings → Standing Kept → List Id
 acknowledges settings w = (asking committed_with settings w).machine.to_acknowledge
 
--- what a failed round may have acknowledged: nothing if its command was not sent
+-- the ids that a failed round may have acknowledged: none if its command was not sent
 abbrev pub asked_before : RunError → List Id → List Id
 asked_before (causes.Request e) ids = []
 asked_before e ids = ids
 
 module _ (settings : Settings) (columns : List Column) (gone : List Id) where
-  -- where a worker may be, over a table that had these rows as it was started, and what was acknowledged so far, by
-  -- it and by those before it: at first it is new; in each round a reply brings it on, or the round fails; and at any
+  -- the states of a worker over a table that had these rows as it was started, and the ids acknowledged so far, by this
+  -- worker and those before it. At first it is new. In each round it takes a reply, or the round fails. At any
   -- time it may crash. Then its table has what was committed, and perhaps more rows, all keys distinct, and another
-  -- worker is started over it, which knows nothing else. What the server reports as deleted is gone
+  -- worker is started over it, which knows nothing else. An entry that the server reports as deleted is gone
   pub data Reaches : List Row → Standing Kept → List Id → List Id → Type 0 where
     begins : (first : List Row) → KeysApart first → Reaches first (newborn_with settings (columns, Some first)) [] []
     turns : (first : List Row) (w x : Standing Kept) (deleted more acknowledged : List Id) (old new : Link) (q : Asked)
@@ -47,14 +47,14 @@ module _ (settings : Settings) (columns : List Column) (gone : List Id) where
         → Reaches first w deleted acknowledged → w.history.committed ≡ Some rows → BeginsWith rows left
         → KeysApart left → Reaches left (newborn_with settings (columns, Some left)) [] acknowledged
 
-  -- the rows that are committed then: no id is there twice, and each id that was acknowledged is there or gone
+  -- the committed rows after that: no id is there twice, and each id that was acknowledged is there or gone
   pub record AreSettled (w : Standing Kept) (acknowledged : List Id) : Type 0 where
     pub rows : List Row
     pub committed : w.history.committed ≡ Some rows
     pub apart : KeysApart rows
     pub there : (id : Id) → Among id acknowledged → IsThere rows id ⊎ Among id gone
 
--- the law
+-- the law of this
 abbrev pub AcknowledgedIsARow : Type 0
 AcknowledgedIsARow = (settings : Settings) (columns : List Column) (gone : List Id) (first : List Row) (w : Standing Kept)
     (deleted acknowledged : List Id) → Reaches settings columns gone first w deleted acknowledged

@@ -13,7 +13,7 @@ use Rattle.stream_in_place.specs.declared.field_value.FieldError.{FieldError}
 use Rattle.stream_in_place.specs.declared.field_value.FieldError.TheVariants.{Missing, NotText, NotNumber}
 use Rattle.worker_table.specs.Fields.{fields_tokens}
 
--- a cell of what was read
+-- the cell of a value that was read
 abbrev pub cell_by : {X : Type 0} → (X → Cell) → Result X FieldError → Result Cell FieldError
 cell_by cell (Ok x) = Ok (cell x)
 cell_by cell (Err e) = Err e

@@ -11,7 +11,7 @@ abbrev pub base64_tokens : List ℕ → List Token
 base64_tokens bytes =
     begin_object ∷ key (codes "base64") ∷ string (encode_of named.standard bytes) ∷ end_object ∷ []
 
--- a text as a string; bytes that are no UTF-8 as an object of their Base64
+-- a text as a string; bytes that are not UTF-8 as an object of their Base64
 abbrev pub bytes_tokens : List ℕ → List Token
 bytes_tokens bytes = if is_utf8 bytes then string bytes ∷ [] else base64_tokens bytes
 

@@ -26,13 +26,13 @@ add_words target e = codes "XADD" ∷ target ∷ e.0 ∷ field_words e.1
 abbrev pub look_words : List ℕ → Id → List (List ℕ)
 look_words target id = codes "XRANGE" ∷ target ∷ id ∷ id ∷ []
 
--- the row of an entry, and what is sent for it: it is added to the target under its own id, with its own fields in order,
--- and the question is whether an entry of this id is there
+-- the row of an entry, and its command: the entry is added to the target under its own id, with its fields in order,
+-- and the query is whether an entry of this id is there
 abbrev pub posted_in : List ℕ → List Column → Entry Pairs → Posted
 posted_in target columns e =
     (row_in columns e, (command_bytes (add_words target e), command_bytes (look_words target e.0)))
 
--- what a handler that forwards keeps: the rows, as one that forwards nothing does
+-- what a handler that forwards keeps: the same rows as one that forwards nothing
 abbrev pub forwarding_kept : List Column → List Posted → Option Stored → Kept
 forwarding_kept columns loose known =
     record { columns = columns; loose = rows_in loose; committed = rows_known known }
@@ -69,7 +69,7 @@ shows_one (wire.refused text) = false
 shows_one (wire.group kind members) = false
 shows_one (wire.pushed kind payload) = false
 
--- these bytes were sent, and then this reply came
+-- these bytes were sent, and then this reply was received
 abbrev pub AsksBy : List ℕ → wire.Answer → Link → Link → Type 0
 AsksBy bytes a old new = (m : Link) × Sends old m bytes × ReceivesAnswer m new a
 
@@ -90,7 +90,7 @@ abbrev pub HasSent : {A : Type 0} → Result A SendError → Link → Option Sto
 HasSent (Ok x) old s new t = Went old s new t × IfSome t (λ u. u.posts ≡ [])
 HasSent (Err e) old s new t = (m : Link) × Went old s m t
 
--- what a crash leaves it might have left before, or it is what such posts leave
+-- each outcome of a crash is an old outcome, or what such posts leave
 abbrev pub LeavesSent : Link → Option Stored → (Stored → Type 0) → (Stored → Type 0) → Type 0
 LeavesSent link s old new = (left : Stored) → new left
     → old left ⊎ ((m : Link) × (t : Option Stored) × Went link s m t × IfSome t (λ u. left ≡ u))

@@ -11,7 +11,7 @@ use Rattle.stream_in_place.specs.declared.id_parts.StreamIdParts.{StreamIdParts}
 use Rattle.worker.specs.Gathered.{Doings, committed_too, done_too}
 use Rattle.worker_table.specs.Cells.{cells_in}
 
--- the two numbers of an id; a text that is no id counts as 0-0, and no handler makes a row of it
+-- the two numbers of an id; a text that is not an id counts as 0-0, and no handler makes a row of it
 abbrev pub key_by : Option StreamIdParts → Key
 key_by None = (0, 0)
 key_by (Some id) = (id.ms, id.seq)
@@ -28,13 +28,13 @@ row_in columns e = (key_in e.0, cells_in columns e.1)
 abbrev pub rows_in : List Column → List (Entry Pairs) → List Row
 rows_in columns es = map (row_in columns) es
 
--- what a handler keeps
+-- the rows that a handler keeps
 pub record Kept : Type 0 where
   pub columns : List Column  -- of its rows
   pub loose : List Row  -- gathered and not committed
-  pub committed : Option (List Row)  -- committed, where the table is known
+  pub committed : Option (List Row)  -- committed, if the table is known
 
--- it keeps this: these rows are gathered, and these are committed
+-- a handler keeps this: these rows are gathered, and these are committed
 abbrev pub kept_by : List Column → List memory.Row → Option (List Row) → Kept
 kept_by columns loose known = record { columns = columns; loose = rows_of loose; committed = known }
 
@@ -44,15 +44,15 @@ kept_too k e done = record k { loose = k.loose ++ row_in k.columns e ∷ [] }
 kept_too k e left_pending = k
 kept_too k e stop = k
 
--- what was gathered is committed
+-- the gathered rows are committed
 abbrev pub committed_with : Kept → Kept
 committed_with k = record k { loose = []; committed = with_known k.loose k.committed }
 
--- what there is as a handler begins: its columns, and the rows of its table, if they are known
+-- the start of a handler: its columns, and the rows of its table, if they are known
 abbrev pub Beginning : Type 0
 Beginning = List Column × Option (List Row)
 
--- what is gathered and committed of these doings, after what there was at first
+-- the gathered and committed rows of these doings, after the first rows
 abbrev pub kept_of : Beginning → Doings → Kept
 kept_of first d = record {
   columns = first.0;
@@ -60,8 +60,8 @@ kept_of first d = record {
   committed = with_known (rows_in first.0 d.committed) first.1;
 }
 
--- the law: what is gathered is the rows of what was done and not committed, in order, and what is committed is what was
--- there first with the rows of what was committed put in, in order, after each verdict and each commit
+-- the law: after each verdict and commit, the gathered rows are those of what was done and not committed, in order,
+-- and the committed rows are the first rows with those of what was committed inserted, in order
 abbrev pub GathersItsRows : Type 0
 GathersItsRows = (first : Beginning) (d : Doings)
     → ((e : Entry Pairs) (v : Verdict) → kept_of first (done_too d e v) ≡ kept_too (kept_of first d) e v)

@@ -16,8 +16,8 @@ use Rattle.worker.specs.declared.state.Settings.{Settings}
 use Rattle.worker.specs.declared.worker.Progress.TheVariants.{GoesOn, Stopped}
 use Rattle.worker_table.specs.Kept.{Beginning, Kept, committed_with, kept_of, kept_too}
 
--- it is so in its life, with these ids of deleted entries, if its handler has done something, whose rows are those
--- that it gathered and those that it committed after the first rows
+-- a round of a worker's life, with these ids of deleted entries, after some doings of its handler: the rows of these
+-- are those that it gathered and those that it committed after the first rows
 pub record LivesSo (settings : Settings) (first : Beginning) (w : Standing Kept) (deleted : List Id) : Type 0 where
   pub doings : Doings
   pub lives : Lives settings (with_doings w doings) deleted
@@ -32,12 +32,12 @@ newborn_with settings first = record {
   history = record { columns = first.0; loose = []; committed = first.1 };
 }
 
--- if what is kept are the rows of some doings, this way leads to what is kept then, the rows of more doings
+-- if the rows that are kept are those of some doings, this way leads to kept rows of more doings
 abbrev pub Leads : Way → Link → Link → Standing Kept → Standing Kept → Type 0
 Leads way old new w x = loops.Leads kept_of way old new w x
 
--- the law: so a worker begins; each round is such a way; and if it lives at first, it lives after such rounds, with
--- just those entries deleted meanwhile that the replies in these rounds reported
+-- the law: a new worker lives so; each round is such a way; and a worker that lives still lives after such rounds, with
+-- exactly those entries deleted meanwhile that the replies in these rounds reported
 pub record RoundsAreLived : Type 0 where
   pub begins : (settings : Settings) (first : Beginning) → LivesSo settings first (newborn_with settings first) []
   pub goes_on : (settings : Settings) (old new : Link) (w x : Standing Kept) (asked : Asked)

@@ -1,4 +1,4 @@
--- Why an entry is no row.
+-- Why an entry is not a row.
 use Rattle.std.specs.Prelude.{◌≡◌, ◌<◌, ◌≤◌, ◌^◌, ◌⊎◌, ℕ, Bool, true, false, List, length, get_or, None, Result, Err, string_bytes}
 use Rattle.worker_table.specs.RowTable.Rows.{Cell}
 use Rattle.worker_table.specs.declared.row_table.cell.Column.{Column}
@@ -26,7 +26,7 @@ abbrev pub IsWhyOf : Column → Pairs → CellsError → Type 0
 IsWhyOf c fields cells.Memory = Unit {0}
 IsWhyOf c fields (cells.Field name why) = (string_bytes name ≡ string_bytes c.name) × (cell_read c fields ≡ Err why)
 
--- so it is with one of these columns
+-- the same for one of these columns
 abbrev pub IsWhyOfOne : List Column → Pairs → CellsError → Type 0
 IsWhyOfOne columns fields cells.Memory = Unit {0}
 IsWhyOfOne columns fields (cells.Field name why) = (i : ℕ) × (c : Column) × (i < length columns) × (c ≡ get_or columns i c)
@@ -44,7 +44,7 @@ IsFaultOf columns e (faults.Table (Refused why)) = ⊥
 IsFaultOf columns e (faults.Field first second name why) =
     (key_in e.0 ≡ (first, second)) × IsWhyOfOne columns e.1 (cells.Field name why)
 
--- the entry itself is no row: its id or a field does not fit the table
+-- the entry itself cannot be a row: its id or a field does not fit the table
 abbrev pub is_unfit : Fault → Bool
 is_unfit faults.NotAnId = true
 is_unfit (faults.Table Memory) = false
@@ -53,6 +53,6 @@ is_unfit (faults.Table (OtherText first second)) = false
 is_unfit (faults.Table (Refused why)) = false
 is_unfit (faults.Field first second name why) = true
 
--- the entry itself is no row in these columns, for this reason
+-- the entry itself cannot be a row in these columns, for this reason
 abbrev pub IsUnfitFor : List Column → Entry Pairs → Fault → Type 0
 IsUnfitFor columns e fault = (is_unfit fault ≡ true) × IsFaultOf columns e fault

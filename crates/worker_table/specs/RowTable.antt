@@ -1,4 +1,4 @@
--- What the contracts speak of.
+-- The definitions that the contracts use.
 pub mod Rows
 pub mod Laws
 pub mod OfRow

@@ -25,28 +25,28 @@ pub struct Forwarding<T: WithOutbox + Drop> {
     table: T,
     /// The columns of its rows; if there are none, a row has one text of all fields.
     columns: Vec<Column>,
-    /// The key of the stream that they are forwarded to.
+    /// The key of the stream that entries are forwarded to.
     target: String,
     /// The rows of the entries that are done and not committed.
     loose: Vec<PostedRow>,
-    /// Whether an entry that is no row is left pending, and the worker goes on.
+    /// Whether an entry that cannot be a row is left pending, and the worker goes on.
     leaves_unfit: bool,
     /// How many entries were delivered, how many were done, and how many of them are committed.
     pub seen: u64,
     pub done: u64,
     pub committed: u64,
-    /// How many were left pending.
+    /// How many entries were left pending.
     pub left: u64,
-    /// How many were forwarded, with a reply.
+    /// How many entries were forwarded, with a reply.
     pub sent: u64,
-    /// Why it stopped, left an entry pending last, or did not commit.
+    /// Why the handler stopped, left an entry pending last, or did not commit.
     pub fault: Option<Fault>,
-    /// The id of the entry at which it stopped, or that it left pending last, if there was memory to keep it.
+    /// The id of the entry at which it stopped, or that it left pending last, if there was memory to keep the id.
     pub undone: Option<String>,
 }
 
 impl<T: WithOutbox + Drop> Forwarding<T> {
-    /// A handler over this tablewith no rows yet. Its rows have a value in each of these columns, or, if there
+    /// A handler over this table with no rows yet. Its rows have a value in each of these columns, or, if there
     /// are none, one text of all fields. They are forwarded to the stream `target`.
     pub fn new(alloc: Global, table: T, columns: Vec<Column>, target: String) -> Forwarding<T>
         ensures { (result.table ≡ table) × (result.columns ≡ columns) × (result.target ≡ target)
@@ -70,21 +70,21 @@ impl<T: WithOutbox + Drop> Forwarding<T> {
         }
     }
 
-    /// The stream that they are forwarded to.
+    /// The stream that entries are forwarded to.
     pub fn target(&self) -> &str
         ensures { result.now ≡ string_bytes self.now.target }
     {
         self.target.as_str()
     }
 
-    /// Whether an entry that is no row is left pending from now on, so that the worker goes on with the next one.
+    /// Sets whether an entry that cannot be a row is left pending, so that the worker goes on with the next one.
     pub fn leave_unfit(&mut self, leaves_unfit: bool)
         ensures { self.new ≡ record self.old { leaves_unfit = leaves_unfit } }
     {
         self.leaves_unfit = leaves_unfit;
     }
 
-    /// Whether all that was done is committed.
+    /// Whether every entry that is done is committed.
     pub fn is_committed(&self) -> bool
         ensures { IsTrue result ↔ self.now.loose.items ≡ [] }
     {
@@ -98,7 +98,7 @@ impl<T: WithOutbox + Drop> Forwarding<T> {
         self.table
     }
 
-    /// Forwards what is committed and has no reply yet, as `send_posts` does.
+    /// Forwards the entries that are committed and have no reply yet, as `send_posts` does.
     pub fn send<R: Read + Drop, W: Write + Drop>(
         &mut self,
         alloc: Global,
@@ -118,7 +118,7 @@ impl<T: WithOutbox + Drop> Forwarding<T> {
         send_posts(alloc, &mut self.table, connection, &mut self.sent)
     }
 
-    /// Adds the row of an entry, and what is sent for it.
+    /// Adds the row of an entry, and the command that is sent for it.
     fn gather(&mut self, alloc: Global, entry: &EntryRef<'_>) -> Result<(), Fault>
         ensures ok { OnOk result (all_posted self.new.loose.items ≡ all_posted self.old.loose.items
             ++ posted_in (string_bytes self.old.target) self.old.columns.items (pair_of entry.now) ∷ []) }
@@ -161,8 +161,8 @@ impl<T: WithOutbox + Drop> Handler for Forwarding<T> {
 
     ghost history = { λ h. forwarding_kept h.columns.items (all_posted h.loose.items) (T.committed h.table) };
 
-    /// Adds the row of the entry and what is sent for it, and returns that it is done; if it cannot, the worker
-    /// stops.
+    /// Adds the row of the entry and the command that is sent for it, and returns that it is done; if it cannot, the
+    /// worker stops.
     fn handle(&mut self, alloc: Global, entry: &EntryRef<'_>) -> Verdict
         ensures posted { result ≡ Verdict.Done → all_posted self.new.loose.items ≡ all_posted self.old.loose.items
             ++ posted_in (string_bytes self.old.target) self.old.columns.items (pair_of entry.now) ∷ [] }
@@ -198,7 +198,7 @@ impl<T: WithOutbox + Drop> Handler for Forwarding<T> {
         }
     }
 
-    /// Inserts the rows that were added, with what is sent for them, in one transaction. After an `Err` the
+    /// Inserts the rows that were added, with their posts, in one transaction. After an `Err` the
     /// table is as it was, and the next commit inserts these rows too.
     fn commit(&mut self, alloc: Global) -> Result<(), NotCommitted>
         ensures posted { OnOk result (T.committed self.new.table

@@ -13,10 +13,10 @@ use stream_in_place::{FieldError, StreamIdParts};
 use thiserror::Error;
 use worker::{EntryRef, Handler, NotCommitted, Verdict};
 
-/// A number of a key is below this one.
+/// Each number of a key is below this bound.
 const KEYS_END: u64 = 1 << 63;
 
-/// Why an entry is no row.
+/// Why an entry is not a row.
 #[derive(Debug, Drop, Error)]
 pub enum Fault {
     /// The id is not two numbers of 64 bits.
@@ -36,7 +36,7 @@ pub enum Fault {
 }
 
 impl Fault {
-    /// Whether the entry itself is no row, whatever else comes: its id or a field does not fit the table.
+    /// Whether the entry itself cannot be a row: its id or a field does not fit the table.
     pub fn is_unfit(&self) -> bool
         ensures { result ≡ is_unfit self.now }
     {
@@ -55,22 +55,22 @@ pub struct Rows<T: Table + Drop> {
     columns: Vec<Column>,
     /// The rows of the entries that are done and not committed.
     loose: Vec<Row>,
-    /// Whether an entry that is no row is left pending, and the worker goes on.
+    /// Whether an entry that cannot be a row is left pending, and the worker goes on.
     leaves_unfit: bool,
     /// How many entries were delivered, how many were done, and how many of them are committed.
     pub seen: u64,
     pub done: u64,
     pub committed: u64,
-    /// How many were left pending.
+    /// How many entries were left pending.
     pub left: u64,
-    /// Why it stopped, left an entry pending last, or did not commit.
+    /// Why the handler stopped, left an entry pending last, or did not commit.
     pub fault: Option<Fault>,
-    /// The id of the entry at which it stopped, or that it left pending last, if there was memory to keep it.
+    /// The id of the entry at which it stopped, or that it left pending last, if there was memory to keep the id.
     pub undone: Option<String>,
 }
 
 impl<T: Table + Drop> Rows<T> {
-    /// A handler over this tablewith no rows yet. A row has one text of all fields.
+    /// A handler over this table with no rows yet. A row has one text of all fields.
     pub fn new(alloc: Global, table: T) -> Rows<T>
         ensures { (result.table ≡ table) × (result.columns.items ≡ []) × (result.loose.items ≡ [])
             × (result.seen ≡ 0) × (result.done ≡ 0) × (result.committed ≡ 0)
@@ -100,14 +100,14 @@ impl<T: Table + Drop> Rows<T> {
         }
     }
 
-    /// Whether an entry that is no row is left pending from now on, so that the worker goes on with the next one.
+    /// Sets whether an entry that cannot be a row is left pending, so that the worker goes on with the next one.
     pub fn leave_unfit(&mut self, leaves_unfit: bool)
         ensures { self.new ≡ record self.old { leaves_unfit = leaves_unfit } }
     {
         self.leaves_unfit = leaves_unfit;
     }
 
-    /// Whether all that was done is committed.
+    /// Whether every entry that is done is committed.
     pub fn is_committed(&self) -> bool
         ensures { IsTrue result ↔ self.now.loose.items ≡ [] }
     {

@@ -3,8 +3,8 @@
 //! The key of a row is the id of its entry, two numbers. Its values are one text of all fields, as JSON, or, if
 //! columns are named, the fields of these names as texts, integers and bytes. A batch is one transaction of the
 //! table, and its entries are acknowledged after the commit. An entry whose id is there already is skipped if
-//! it has the same fields, and otherwise is an error. So each id is one row, whatever is redelivered, to whom
-//! and how often.
+//! it has the same fields, and otherwise is an error. So each id is one row, whatever is redelivered, to which
+//! consumer and how often.
 //!
 //! `Forwarding` also forwards entries to another stream. What it sends is in an outbox beside the table,
 //! inserted in the transaction of the row. After the commit `send_posts` adds each under its own id, and then

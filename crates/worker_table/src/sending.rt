@@ -40,7 +40,7 @@ pub enum SendError {
 /// Why a post stays queued.
 #[derive(Debug, Drop, Error)]
 pub enum PostError {
-    /// The command was not sent, or no reply came.
+    /// The command was not sent, or no reply was received.
     #[error("{0}")]
     Connection(ConnectionError),
     /// The server refused the command.
@@ -138,8 +138,8 @@ fn send_each<T: WithOutbox, R: Read + Drop, W: Write + Drop>(
     Err(TableError::Refused("too many posts"))
 }
 
-/// The stream to which the command of a post adds: that of its question, if this is `XRANGE target id id`, made
-/// of the id of the post. None also if memory runs out.
+/// The stream to which the command of a post adds: that of the post's query, if this is `XRANGE target id id`, made
+/// of the id of the post. It is also `None` if memory runs out.
 pub fn target_of(alloc: Global, post: &Post) -> Option<String>
     ensures { IfSome result (λ target. (id : List ℕ) × ((post_of post.now).question
         ≡ command_bytes (look_words (string_bytes target) id))) }
@@ -157,7 +157,7 @@ pub fn target_of(alloc: Global, post: &Post) -> Option<String>
     String::from_str(alloc, target).ok()
 }
 
-/// Sends a post. Ok if the server executes its command, or an entry of its id is there.
+/// Sends a post. It is `Ok` if the server executes its command, or an entry of its id is there.
 fn send_post<R: Read + Drop, W: Write + Drop>(
     alloc: Global,
     connection: &mut Connection<R, W>,

@@ -147,7 +147,7 @@ impl<S: Alter + Drop> WithOutbox for SqliteOutbox<S> {
 /// The posts in an outbox.
 #[derive(Drop)]
 pub struct Waiting {
-    /// How many posts.
+    /// How many posts there are.
     pub count: u64,
     /// The post of the first key.
     pub first: Post,
@@ -232,7 +232,7 @@ fn post_in(alloc: Global, row: &Shown) -> Result<Post, TableError>
     })
 }
 
-/// The number at this place.
+/// The number in the column of this index.
 fn number_at(row: &Shown, at: usize) -> Result<u64, TableError>
     ensures { IfOk result (λ number. column row.now at ≡ number_value number) }
 {
@@ -242,7 +242,7 @@ fn number_at(row: &Shown, at: usize) -> Result<u64, TableError>
     }
 }
 
-/// A number that is not below zero.
+/// Converts a number that is not negative.
 fn unsigned(number: i64) -> Result<u64, TableError>
     ensures { IfOk result (λ n. number ≡ pos n) }
 {
@@ -252,7 +252,7 @@ fn unsigned(number: i64) -> Result<u64, TableError>
     }
 }
 
-/// The bytes at this place.
+/// The bytes in the column of this index.
 fn bytes_at(alloc: Global, row: &Shown, at: usize) -> Result<Vec<u8>, TableError>
     ensures { IfOk result (λ bytes. column row.now at ≡ bytes_value bytes.items) }
 {

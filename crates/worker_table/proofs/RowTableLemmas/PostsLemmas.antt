@@ -91,7 +91,7 @@ posted_more first known new done p so_far more there = record {
       (ap rows_known more ∙ rows_put (p ∷ []) known) there);
 }
 
--- ---- what a result says
+-- -- facts of results
 
 pub ok_too : {A E P Q : Type 0} (r : Result A E) → OnOk r P → (P → Q) → OnOk r Q
 ok_too (Ok x) p f = f p

@@ -29,7 +29,7 @@ other_way a b differ = by (same_key b a) refl
 
 -- ---- what is found
 
--- in front of others
+-- before others
 front_step : (b : Bool) (text other : List Cell) (o more : Option (List Cell)) → (o ≡ Some text → more ≡ Some text)
     → (if b then Some other else o) ≡ Some text → (if b then Some other else more) ≡ Some text
 front_step true text other o more on h = h
@@ -41,7 +41,7 @@ found_front [] more k text h = absurd (none-some text h)
 found_front (r ∷ rs) more k text h =
     front_step (same_key r.0 k) text r.1 (find k rs) (find k (rs ++ more)) (found_front rs more k text) h
 
--- behind others
+-- after others
 behind_step : (b : Bool) (text other : List Cell) (o more : Option (List Cell)) → (o ≡ None → more ≡ Some text)
     → (if b then Some other else o) ≡ None → (if b then Some other else more) ≡ Some text
 behind_step true text other o more on h = absurd (none-some other (sym h))

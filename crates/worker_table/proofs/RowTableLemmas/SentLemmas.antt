@@ -12,7 +12,7 @@ key_is a b h =
     let both = both_true (a.0 == b.0) (a.1 == b.1) h in
     ap (λ (n : ℕ). (n, a.1)) (eqb-true a.0 b.0 both.0) ∙ ap (λ (n : ℕ). (b.0, n)) (eqb-true a.1 b.1 both.1)
 
--- ---- rows behind others
+-- -- rows after others
 
 found_last : (b : Bool) (cells : List Cell) (A : Type 0) → (b ≡ true → A)
     → IsSome (if b then Some cells else None) → A
@@ -47,7 +47,7 @@ last_there : (rows : List Row) (r : Row) → IsSome (find r.0 (rows ++ r ∷ [])
 last_there [] r = rw (same_self r.0) refl
 last_there (x ∷ xs) r = some_or (same_key x.0 r.0) x.1 (find r.0 (xs ++ r ∷ [])) (last_there xs r)
 
--- ---- posts behind others
+-- -- posts after others
 
 has_front : (posts more : List Post) (k : Key) → HasPost k posts → HasPost k (posts ++ more)
 has_front [] more k h = absurd h

@@ -1,8 +1,8 @@
--- What holds of inserted rows.
+-- Laws of inserted rows.
 use Rattle.std.specs.Prelude.{◌≡◌, ◌++◌, ◌∷◌, List, Some, IsSome}
 use Rattle.worker_table.specs.RowTable.Rows.{Cell, Key, Row, find, with_rows, KeysApart, BeginsWith}
 
--- the law: a key that is there keeps its values, whatever is inserted; what was there comes first; distinct keys stay
+-- the law: a key that is there keeps its values, whatever is inserted; the first rows come first; distinct keys stay
 -- distinct; the key of each inserted row is there; and rows may be inserted at once or in turn
 pub record RowsArePutIn : Type 0 where
   pub stays : (rows more : List Row) (k : Key) (cells : List Cell) → find k rows ≡ Some cells

@@ -5,7 +5,7 @@ use Rattle.worker_table.specs.declared.row_table.cell.Cell as memory
 use Rattle.worker_table.specs.declared.row_table.cell.Cell.TheVariants.{Null, Integer, Text, Blob}
 use Rattle.worker_table.specs.declared.row_table.row.Row.{Row}
 
--- the value that it is
+-- the value of a cell
 abbrev pub cell_of : memory.Cell → rows.Cell
 cell_of Null = rows.null
 cell_of (Integer n) = rows.integer n

@@ -1,21 +1,21 @@
--- A table with an outbox: which rows are there, and what is to be sent for them.
+-- A table with an outbox: its rows, and the commands that are to be sent for them.
 use Rattle.std.specs.Prelude.{◌≡◌, ◌⊎◌, ◌&&◌, ◌||◌, ◌==◌, ℕ, Bool, List, [], ◌∷◌, ◌++◌, Option, Some, None, is_some}
 use Rattle.std.specs.Prelude.{if◌then◌else◌, map, nat_le, nat_lt, option_map, IsTrue}
 use Rattle.std.specs.List.{AllByRecursion}
 use Rattle.worker_table.specs.RowTable.Rows.{Key, Row, find, same_key, with_row}
 
--- what is to be sent for the row of this key: a command, and the query whether it was executed
+-- the post of the row of this key: a command, and the query whether it was executed
 pub record Post : Type 0 where
   pub key : Key
   pub command : List ℕ
   pub question : List ℕ
 
--- the rows that are there, and what is to be sent, in the order of insertion
+-- the rows, and the posts in the order of insertion
 pub record Stored : Type 0 where
   pub rows : List Row
   pub posts : List Post
 
--- a row that is inserted, and what is sent for it: the command and the query
+-- a row that is inserted, and its post: the command and the query
 abbrev pub Posted : Type 0
 Posted = Row × (List ℕ × List ℕ)
 
@@ -43,7 +43,7 @@ abbrev pub with_all_posted : Stored → List Posted → Stored
 with_all_posted s [] = s
 with_all_posted s (p ∷ ps) = with_all_posted (with_posted s p) ps
 
--- if it is known what is there, these are inserted
+-- if the contents are known, these are inserted
 abbrev pub with_known_posted : List Posted → Option Stored → Option Stored
 with_known_posted ps known = option_map (λ s. with_all_posted s ps) known
 
@@ -60,7 +60,7 @@ abbrev pub without : Key → List Post → List Post
 without k [] = []
 without k (p ∷ ps) = if same_key p.key k then without k ps else p ∷ without k ps
 
--- what is there without the post of this key
+-- the contents without the post of this key
 abbrev pub without_post : Stored → Key → Stored
 without_post s k = record { rows = s.rows; posts = without k s.posts }
 

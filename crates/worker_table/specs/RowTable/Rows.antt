@@ -74,7 +74,7 @@ LeavesJust {A} known may_leave = (left : A) → may_leave left → IfSome known 
 abbrev pub LeavesAll : Option (List Row) → (List Row → Type 0) → Type 0
 LeavesAll known may_leave = (left : List Row) → may_leave left → IfSome known (λ rows. BeginsWith rows left)
 
--- whatever a crash leaves now, it might have left before
+-- whatever a crash may leave now, it might have left before
 abbrev pub LeavesNoOther : {A : Type 0} → (A → Type 0) → (A → Type 0) → Type 0
 LeavesNoOther {A} old new = (left : A) → new left → old left
 
@@ -82,6 +82,6 @@ LeavesNoOther {A} old new = (left : A) → new left → old left
 abbrev pub IsClosed : Option Bool → Type 0
 IsClosed known = IfSome known (λ is_open. is_open ≡ false)
 
--- or it is this, if it is known
+-- whatever a crash may leave now, it might have left before, or it is this, if this is known
 abbrev pub LeavesOldOr : {A : Type 0} → Option A → (A → Type 0) → (A → Type 0) → Type 0
 LeavesOldOr {A} known old new = (left : A) → new left → old left ⊎ IfSome known (λ is. left ≡ is)

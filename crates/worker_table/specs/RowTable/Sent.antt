@@ -1,4 +1,4 @@
--- What is there of a table with an outbox, over every schedule of transactions and replies.
+-- The contents of a table with an outbox, over every schedule of transactions and replies.
 use Rattle.std.specs.Prelude.{◌≡◌, ◌⊎◌, List, [], ◌∷◌, Some, IsSome, map}
 use Rattle.worker_table.specs.RowTable.Rows.{Key, find}
 use Rattle.worker_table.specs.RowTable.Posts.{IsAmong, IsFirst, Post, Posted, Stored, with_all_posted, without_post}
@@ -13,9 +13,9 @@ abbrev pub HasPost : Key → List Post → Type 0
 HasPost k posts = HasKey k (map (λ p. p.key) posts)
 
 module _ (first : Stored) where
-  -- what may be committed, if this was there first, and the keys whose commands got a reply: rows are inserted with
-  -- their posts, and the first post is removed after its reply. A crash leaves what was committed last, so it is no
-  -- step
+  -- the contents that may be committed after these first ones, and the keys whose commands got a reply: rows are
+  -- inserted with their posts, and the first post is removed after its reply. A crash leaves the last commit, so it is
+  -- not a step
   pub data Goes : Stored → List Key → Type 0 where
     begins : Goes first []
     puts : (s : Stored) (done : List Key) (ps : List Posted) → Goes s done → Goes (with_all_posted s ps) done
@@ -23,12 +23,12 @@ module _ (first : Stored) where
         → Goes (without_post s p.key) (p.key ∷ done)
 
   -- each row was there first, or its post is there, or got a reply; each post that was there first is there or got a
-  -- reply; and no post is there but of those and of rows that are there
+  -- reply; and each other post is there with its row
   pub record NoneIsLost (s : Stored) (done : List Key) : Type 0 where
     pub rows : (k : Key) → IsSome (find k s.rows) → IsSome (find k first.rows) ⊎ (HasPost k s.posts ⊎ HasKey k done)
     pub posts : (p : Post) → IsAmong p first.posts → IsAmong p s.posts ⊎ HasKey p.key done
     pub early : (p : Post) → IsAmong p s.posts → IsAmong p first.posts ⊎ IsSome (find p.key s.rows)
 
--- the law
+-- the law of this
 abbrev pub NoPostIsLost : Type 0
 NoPostIsLost = (first s : Stored) (done : List Key) → Goes first s done → NoneIsLost first s done

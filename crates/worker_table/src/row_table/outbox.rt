@@ -14,7 +14,7 @@ use std::alloc::Global;
 
 /// A table of rows with an outbox beside it, in a database whose transactions are over both.
 ///
-/// Its clauses are those of a database whose disk is honest: after any crash a transaction is there as a whole
+/// Its clauses are those of a database whose disk is honest: after any crash a transaction is there completely
 /// or not at all, and after an Ok of its commit it is there.
 pub trait WithOutbox {
     /// The rows and the posts as the transaction has them, if they are known.
@@ -23,7 +23,7 @@ pub trait WithOutbox {
     /// The rows and the posts of the last commit, if they are known.
     ghost committed: { Self → Option posts.Stored };
 
-    /// What a crash at this moment may leave.
+    /// The rows and posts that a crash at this moment may leave.
     ghost may_leave: { Self → posts.Stored → Type 0 };
 
     /// Whether a transaction is open, if it is known.

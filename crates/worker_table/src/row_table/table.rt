@@ -11,7 +11,7 @@ use std::alloc::Global;
 
 /// A table of rows by their keys, in a database with transactions.
 ///
-/// Its clauses are those of a database whose disk is honest: after any crash a transaction is there as a whole
+/// Its clauses are those of a database whose disk is honest: after any crash a transaction is there completely
 /// or not at all, and after an Ok of its commit it is there.
 pub trait Table {
     /// The rows as the transaction has them, in the order in which they were inserted, if they are known.
