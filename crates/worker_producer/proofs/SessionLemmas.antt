@@ -1,4 +1,4 @@
--- Rounds of a session: each command gets its reply, and at the end all records are added.
+-- Rounds over a connection: each command gets its reply, and at the end all records are added.
 use Rattle.std.proofs.Common.{◌≡◌, ◌+◌, ◌<◌, ◌≤◌, ℕ, zero, suc, List, [], ◌∷◌, length, take, drop, Option}
 use Rattle.std.proofs.lemmas.Bool.{true≢false}
 use Rattle.std.proofs.Common.{true, false, refl, sym, ap, subst, ◌∙◌, arith, add-one}

@@ -223,7 +223,7 @@ SessionsRun = (setting : Setting Fields) (s : Settings) (known : Option (List Fi
     → EachIsServed setting s known count ms events n old new v x r
     → Runs setting s events v → Runs setting s (events ++ session_events s ms n) x
 
--- a session that breaks off is such rounds and a break
+-- and one that breaks off is such rounds and a break
 abbrev pub BrokenSessionsRun : Type 0
 BrokenSessionsRun = (setting : Setting Fields) (s : Settings) (known : Option (List Fields)) (count : ℕ)
     (ms : ℕ → Meantime) (events : List (Event Fields)) (old new : Link) (e : RunError)

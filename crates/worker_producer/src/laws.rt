@@ -29,7 +29,7 @@ pub fn stays_in_step()
 /// The contracts of `Producer::round`, `disconnected` and `new` are events of the producer of `model_server::once`: a round
 /// that returns Ok, one that breaks off, and a crash with the start after it. So after each schedule of them (`Runs`)
 /// the producer is that of the model, and each round sends the bytes of the model's commands. The rounds of a session
-/// are such rounds, and so are those of a session that breaks off.
+/// are such rounds, and so are those of one that breaks off.
 ///
 /// The premises of a round (`IsServed`) are two. It sends the next of the model's records, which holds for a source
 /// whose records are known. The last reply is the one that the model's server sent.
