@@ -14,7 +14,7 @@ use Rattle.server_store.specs.declared.stream.Entry.{Entry}
 abbrev pub entries_behind : EntryId → List Entry → List Entry
 entries_behind id = filter (λ entry. is_lt (id_order id entry.id))
 
--- nothing is pending in another way, and for nobody else
+-- the pending entries and the consumers are unchanged
 pub record IsPendingSame (old new : Group) : Type 0 where
   pub pending : new.pending ≡ old.pending
   pub consumers : new.consumers ≡ old.consumers

@@ -53,7 +53,7 @@ impl Client {
     ///
     /// Bytes that no further bytes could make a command get the reply `-ERR Protocol error: ..`, and end the
     /// connection. So does an `Err`: an allocation failed, and the last command that was executed may have no
-    /// reply. What comes after the end is ignored.
+    /// reply. Bytes after the end are ignored.
     pub fn answer(
         &mut self,
         alloc: Global,
@@ -138,7 +138,7 @@ impl Client {
         Ok(())
     }
 
-    /// Whether the connection has ended: the server sends no more, and ignores what comes.
+    /// Whether the connection has ended: the server sends no more, and ignores further bytes.
     pub fn has_ended(&self) -> bool
         ensures { result ≡ self.now.has_ended }
     {

@@ -20,8 +20,8 @@ impl From<io::Error> for PrintError {
     }
 }
 
-/// Writes a line for each row: its name, a space and the text; where the text differs from the
-/// stored one, ` differs from ` and the stored text as well.
+/// Writes a line for each row: its name, a space and the text. If the text differs from the
+/// stored one, ` differs from ` and the stored text follow it.
 ///
 /// Returns `true` exactly if no text differs. It takes no memory. If the writer fails, it returns
 /// `Write`; how much was written by then is not known.

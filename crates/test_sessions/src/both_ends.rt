@@ -117,7 +117,7 @@ fn parted(words: &str) -> (&str, &str) {
     words.split_once(' ').unwrap_or((words, ""))
 }
 
-/// Parses a word as a number; 0 if it is none.
+/// Parses a word as a number; 0 if it is not one.
 fn number_of(word: &str) -> usize {
     word.parse().unwrap_or(0)
 }

@@ -124,7 +124,7 @@ fn settings_for(alloc: Global, key: &str, consumer: &str) -> Result<Settings, Al
     }
 }
 
-/// Parses a word as a number; 0 if it is none.
+/// Parses a word as a number; 0 if it is not one.
 fn number_of(word: &str) -> usize {
     word.parse::<usize>().unwrap_or(0)
 }

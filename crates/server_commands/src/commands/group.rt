@@ -208,7 +208,7 @@ impl Start {
     }
 }
 
-/// Where a group begins by the first of the words.
+/// The start of a group by the first of the words.
 fn start_in(words: &[Vec<u8>]) -> Result<Start, Refusal>
     ensures { IfOk result (λ start. HoldsAt (IsStartIn start) words.now 0) }
 {

@@ -36,7 +36,7 @@ struct Stalled {
     claimed: Vec<Pending>,
     /// Those that were deleted from the stream.
     gone: Vec<EntryId>,
-    /// Where the next claim goes on; 0-0 at the end.
+    /// The start of the next claim; 0-0 at the end.
     next: EntryId,
 }
 
@@ -70,7 +70,7 @@ pub(super) fn claim_stalled(
     Ok(answer)
 }
 
-/// Where the next claim goes on, what the consumer takes over, and the ids that are gone.
+/// The start of the next claim, the entries that the consumer takes over, and the deleted ids.
 fn answer_of(
     alloc: Global,
     stream: &Stream,
