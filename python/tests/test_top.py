@@ -64,6 +64,26 @@ class LinesTest(unittest.TestCase):
             self.assertIn(said, error, words)
 
 
+class PlaceTest(unittest.TestCase):
+    def test_the_program_is_named_anywhere(self) -> None:
+        with tempfile.TemporaryDirectory() as folder, socket.create_server(("127.0.0.1", 0)) as quiet:
+            shown = os.path.join(folder, "shown")
+            with open(shown, "w", encoding="ascii") as file:
+                file.write("#!/bin/sh\necho \"$@\" >&2\n")
+            os.chmod(shown, 0o700)
+            url, place = f"redis://127.0.0.1:{quiet.getsockname()[1]}", "127.0.0.1:0"
+            for words in (("--program", shown, "--listen", place, "orders"), ("orders", "--listen", place, "--program", shown)):
+                with subprocess.Popen([sys.executable, "-m", "jagyerti", "top", url, *words], stdout=subprocess.PIPE,
+                                      stderr=subprocess.PIPE, env=dict(os.environ, PYTHONPATH=PACKAGES), text=True) as one:
+                    assert one.stdout is not None and one.stderr is not None
+                    line = one.stdout.readline()
+                    one.terminate()
+                    self.assertEqual((one.stderr.read(), one.wait(20)), ("", 0), words)
+                self.assertRegex(line, r"\Ahttp://127\.0\.0\.1:\d+/metrics\n\Z")
+            for words in (("--program", shown, "--json", "orders"), ("--json", "--program", shown, "orders")):
+                self.assertEqual(called("top", url, *words), (0, "--once --json -- orders\n", ""), words)
+
+
 class Terminal:
     """The command in a terminal of its own."""
 
