@@ -70,8 +70,9 @@ class Partition(Tries):
         self.started: Optional[float] = None
 
     def say(self, text: str) -> None:
-        """Prints it with the name of the partition."""
-        self.plan.say(f"{self.plan.words[0]}: {text}")
+        """Prints each of its lines with the name of the partition."""
+        for line in text.split("\n"):
+            self.plan.say(f"{self.plan.words[0]}: {line}")
 
     def report(self, **changes: Any) -> None:
         """Reports what changed."""
