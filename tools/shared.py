@@ -228,6 +228,15 @@ def below(top: int, found: Dict[int, Process]) -> List[int]:
     return pids[1:]
 
 
+def begun_below(top: int) -> List[int]:
+    """The processes below this one whose parents began them in their first thread. To look takes less than a millisecond."""
+    pids = [top]
+    for pid in pids:
+        with contextlib.suppress(OSError):
+            pids += map(int, text_of(f"/proc/{pid}/task/{pid}/children").split())
+    return pids[1:]
+
+
 def child_of(ran: "subprocess.Popen[bytes]") -> Optional[int]:
     """The first process that a command has begun, once it has; None if the command ended before."""
     while ran.poll() is None:
