@@ -41,7 +41,7 @@ use std::io::{ErrorKind, Read, Write};
 use std::process::ExitCode;
 use std::{env, io};
 use worker_journal::{LogError, SystemFile};
-use worker_producer::{ConfirmedError, RequestError, RunError, Settings};
+use worker_producer::{ConfirmedError, FeedError, RequestError, RunError, Settings};
 
 fn main(rt: HostRuntime) -> Result<ExitCode> {
     let words = read_arguments(&rt)?;
@@ -127,7 +127,7 @@ fn fill_by(rt: &HostRuntime, options: Options) -> Result<()> {
     drop(kept);
     eprintln!(rt; "{counts}")?;
     if let Err(error) = ended {
-        return Err(explain_error(error, lines.fault));
+        return Err(explain_error(error, lines.fault, is_onto));
     }
     if lines.is_torn {
         bail!("the last line has no end, and is not added");
@@ -164,8 +164,9 @@ fn use_kept_base<R: Read + Drop, W: Write + Drop>(
     }
 }
 
-/// The error that not all lines were added. If records were not read, it is the fault of the file.
-fn explain_error(error: FillError, fault: Option<Error>) -> Error
+/// The error that not all lines were added. If records were not read, it is the fault of the file. If the stream has
+/// other entries, the error names `--onto`, unless it was given.
+fn explain_error(error: FillError, fault: Option<Error>, is_onto: bool) -> Error
     ensures { error ≡ FillError.Round (ConfirmedError.Round (RunError.Request RequestError.NotRead))
         → IfSome fault (λ f. result ≡ f) }
 {
@@ -174,6 +175,16 @@ fn explain_error(error: FillError, fault: Option<Error>) -> Error
             FillError::Round(ConfirmedError::Round(RunError::Request(RequestError::NotRead))),
             Some(fault),
         ) => fault,
+        (
+            FillError::Round(ConfirmedError::Round(RunError::Answer(FeedError::OtherWriter))),
+            _,
+        ) => {
+            if is_onto {
+                anyhow!("another writer adds to the stream")
+            } else {
+                anyhow!("the stream has other entries: with --onto the lines go after them")
+            }
+        }
         (error, _) => error.into(),
     }
 }
