@@ -182,7 +182,7 @@ fn explain_error(error: FillError, fault: Option<Error>, is_onto: bool) -> Error
             if is_onto {
                 anyhow!("another writer adds to the stream")
             } else {
-                anyhow!("the stream has other entries: with --onto the lines go after them")
+                anyhow!("the stream has entries of another writer: --onto adds all lines after them")
             }
         }
         (error, _) => error.into(),
