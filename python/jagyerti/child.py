@@ -29,6 +29,9 @@ KILLS = (-signal.SIGKILL, -signal.SIGTERM)  # statuses of what was ended by anot
 NO_FILE = re.compile("no such file|cannot find module|could not open|can(no|')t open", re.I)
 
 
+Deliveries = Callable[[str], Optional[int]]
+
+
 @dataclasses.dataclass(frozen=True)
 class Handling:
     """How jobs are handled: by which command, how long a job may take, and how long the last one after a signal."""
@@ -39,6 +42,7 @@ class Handling:
     retry_after: Optional[float] = None
     retry_most: float = 3600.0
     is_direct: bool = False
+    has_deliveries: bool = False
 
 
 def handler_environment() -> Dict[str, str]:
@@ -68,11 +72,14 @@ class Relay(threading.Thread):
     """Passes each line on to the handler and its reply back, all bytes as they come, and tells the desk of both.
 
     A handler that ends or writes while no job is in hand is told to `broken`. `later` is called with the id of a job
-    that was replied so, before the reply is passed on.
+    that was replied so, before the reply is passed on. If there is `deliveries`, it says how often a job was delivered, and
+    the job's line gets that as its last member.
     """
 
-    def __init__(self, pipes: Sequence[int], desk: Desk, later: Callable[[str], None], broken: Callable[[str], None]) -> None:
+    def __init__(self, pipes: Sequence[int], desk: Desk, later: Callable[[str], None], broken: Callable[[str], None],
+                 deliveries: Optional[Deliveries] = None) -> None:
         super().__init__(daemon=True)
+        self.deliveries = deliveries
         self.lines, self.to_handler, self.from_handler, self.replies = self.pipes = tuple(pipes)
         self.desk, self.later, self.broken = desk, later, broken
         self.count, self.poll = 0, select.poll()
@@ -98,14 +105,28 @@ class Relay(threading.Thread):
             self.broken("the handler wrote a line before it was asked" if is_unasked else "")
             return False
         piece = os.read(self.lines, PIECE)
+        times = self.deliveries(id_of(piece)) if self.deliveries is not None and piece else None
         if piece:
             self.desk.begin(piece)
+        if times is not None:
+            return self._pass_with(piece, b',"deliveries":%d}\n' % times)
         while piece:
             _write_all(self.to_handler, piece)
             if piece.endswith(b"\n"):
                 return True
             piece = os.read(self.lines, PIECE)
         return False
+
+    def _pass_with(self, piece: bytes, end: bytes) -> bool:
+        """Passes on the line that begins with this piece, with another end in place of its brace. Returns whether it is whole."""
+        while not piece.endswith(b"\n"):
+            _write_all(self.to_handler, piece[:-1])
+            more = os.read(self.lines, PIECE)
+            if not more:
+                return False
+            piece = piece[-1:] + more
+        _write_all(self.to_handler, piece[:-2] + end)
+        return True
 
     def _pass_reply(self) -> bool:
         """Waits for a reply and passes it on. Returns whether it was one."""
@@ -135,7 +156,8 @@ class Child:
     If it is direct there is no relay, and `count`, the replies, is what stream_run says in the end.
     """
 
-    def __init__(self, handling: Handling, prefix: str, desk: Desk, later: Callable[[str], None]) -> None:
+    def __init__(self, handling: Handling, prefix: str, desk: Desk, later: Callable[[str], None],
+                 deliveries: Optional[Deliveries] = None) -> None:
         self.handling, self.prefix, self.desk = handling, prefix, desk
         self.begun, self.lasted, self.is_late, self.last_line = time.monotonic(), 0.0, False, ""
         self.status, self.is_killed, self.missing, self.count = 0, False, "", 0
@@ -162,7 +184,7 @@ class Child:
         assert self.process.stderr is not None
         self.listener = Listener(self.process.stderr, self._show, do_nothing)
         self.listener.start()
-        self.relay = Relay(inner, desk, later, self._break) if inner else None
+        self.relay = Relay(inner, desk, later, self._break, deliveries) if inner else None
         if self.relay is not None:
             self.relay.start()
 
@@ -194,6 +216,12 @@ class Child:
         self.kill()
         if self.run is not None:
             self.run.stop()
+
+    def take_back(self, job: str) -> None:
+        """Takes the last reply for none, since stream_run refused it: a line of JSON, which the relay takes for 'done'."""
+        if self.relay is not None and self.desk.line is None:
+            self.relay.count -= 1
+            self.desk.take_back(job)
 
     def attach(self, run: Run) -> None:
         """Takes the run that it works for, and watches how long each job takes."""

@@ -1,7 +1,8 @@
 """Dead letters: entries that a worker gave up, as `stream_drain --dead` adds them to a stream of their own.
 
 A letter is an entry with the fields `entry` and `deliveries` first: the id of the entry that was given up, and how often
-it was delivered. After them are the fields of that entry, in their order.
+it was delivered. After them are the fields of that entry, in their order. A job that was replied `dead TEXT` has a letter
+with the field `reason` before these, which is the text.
 """
 from __future__ import annotations
 
@@ -19,10 +20,11 @@ REPLAY = """
 local found = redis.call('XRANGE', KEYS[1], ARGV[1], ARGV[1])
 if #found == 0 then return false end
 local fields = found[1][2]
-if fields[1] ~= 'entry' or fields[3] ~= 'deliveries' or #fields < 6 then
+local at = fields[1] == 'reason' and 3 or 1
+if fields[at] ~= 'entry' or fields[at + 2] ~= 'deliveries' or #fields < at + 5 then
   return redis.error_reply('NOLETTER the entry is no dead letter')
 end
-local id = redis.call('XADD', KEYS[2], 'NOMKSTREAM', '*', unpack(fields, 5))
+local id = redis.call('XADD', KEYS[2], 'NOMKSTREAM', '*', unpack(fields, at + 4))
 if not id then return redis.error_reply('NOSTREAM the stream to add to does not exist') end
 redis.call('XDEL', KEYS[1], ARGV[1])
 return id
@@ -36,17 +38,26 @@ class Letter:
     """A dead letter: its id, the id and the deliveries of the entry that was given up, and the fields of that entry.
 
     `entry` and `deliveries` are None if this entry of the stream is no letter. Then all of its fields are in `fields`.
+    `why` is the field `reason` of the letter itself, None if it has none.
     """
 
     id: str
     entry: Optional[str]
     deliveries: Optional[int]
     fields: Fields
+    why: Optional[bytes] = None
 
     @property
     def reason(self) -> Optional[bytes]:
-        """The value of the field `reason` if that is the first one, where a worker may say why it gave the entry up."""
-        return self.fields[0][1] if self.entry is not None and self.fields[:1] and self.fields[0][0] == b"reason" else None
+        """Why the entry was given up: `why`, or else the first field of the entry if its name is `reason`."""
+        if self.why is None and self.entry is not None and self.fields[:1] and self.fields[0][0] == b"reason":
+            return self.fields[0][1]
+        return self.why
+
+    @property
+    def times(self) -> str:
+        """How often the entry was delivered, in words."""
+        return "1 delivery" if self.deliveries == 1 else f"{self.deliveries} deliveries"
 
 
 def complete_id(text: str) -> str:
@@ -65,7 +76,7 @@ def read_letters(connection: socket.socket, stream: str) -> Iterator[Letter]:
     while True:
         rows = resp.ask(connection, "XRANGE", stream, start, "+", "COUNT", PAGE)
         for row in rows:
-            yield _letter(row)
+            yield letter_of(row)
         if len(rows) < PAGE:
             return
         start = _following(rows[-1][0].decode())
@@ -74,7 +85,7 @@ def read_letters(connection: socket.socket, stream: str) -> Iterator[Letter]:
 def find_letter(connection: socket.socket, stream: str, id: str) -> Optional[Letter]:
     """Returns the letter of this id, None if it is not in the stream."""
     rows = resp.ask(connection, "XRANGE", stream, id, id)
-    return _letter(rows[0]) if rows else None
+    return letter_of(rows[0]) if rows else None
 
 
 def replay_letter(connection: socket.socket, stream: str, id: str, onto: str) -> Optional[str]:
@@ -93,12 +104,14 @@ def drop_letter(connection: socket.socket, stream: str, id: str) -> bool:
     return bool(resp.ask(connection, "XDEL", stream, id))
 
 
-def _letter(row: resp.Reply) -> Letter:
+def letter_of(row: resp.Reply) -> Letter:
+    """Returns an entry of the stream as a letter, with or without a reason before its other fields."""
     id, flat = row
     fields: Fields = list(zip(flat[::2], flat[1::2]))
-    names = [name for name, _ in fields[:2]]
-    if names == [b"entry", b"deliveries"] and fields[1][1].isdigit():
-        return Letter(id.decode(), fields[0][1].decode(errors="backslashreplace"), int(fields[1][1]), fields[2:])
+    why = fields[0][1] if fields[:1] and fields[0][0] == b"reason" else None
+    head, rest = (fields[:2], fields[2:]) if why is None else (fields[1:3], fields[3:])
+    if [name for name, _ in head] == [b"entry", b"deliveries"] and head[1][1].isdigit():
+        return Letter(id.decode(), head[0][1].decode(errors="backslashreplace"), int(head[1][1]), rest, why)
     return Letter(id.decode(), None, None, fields)
 
 

@@ -71,9 +71,12 @@ class Desk:
         self.line = line
 
     def end(self, reply: bytes) -> Optional[str]:
-        """Takes the reply to the job in hand, and returns what it says. After None, no reply, the job is still in hand."""
+        """Takes the reply to the job in hand, and returns what it says. After None, no reply, the job is still in hand.
+
+        A line of JSON is 'done': stream_run looks at its form.
+        """
         line, kind, text = self.line, DONE, ""
-        if reply != b"done\n":
+        if reply != b"done\n" and not (reply[:1] == b"{" and b"\n" in reply):
             found = REPLY.match(reply[:reply.find(b"\n") + 1])
             kind = found[1].partition(b" ")[0].decode() if found else ""
             text = (found[2] or found[3] or b"").decode(errors="replace").strip() if found else ""
@@ -90,6 +93,11 @@ class Desk:
             self.note(id_of(line), f"{kind}: {text}" if text else f"it replied {kind}")
         self.line = None
         return kind
+
+    def take_back(self, job: str) -> None:
+        """Has this job in hand again: its reply was a line of JSON that stream_run refused."""
+        self.counts[DONE] -= 1
+        self.line = b'{"id":"%s"' % job.encode()
 
     def note(self, job: str, why: str) -> None:
         """Keeps why a job failed. The oldest of many reasons are forgotten."""

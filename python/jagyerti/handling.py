@@ -12,7 +12,7 @@ from typing import Callable, Dict, List, Optional, Tuple
 from .child import CLOSING, HANDLER_FAILED, Child, Handling, arguments_of
 from .connect import Failed
 from .desk import Desk
-from .keeper import Beat, Keeper, Letters, Link
+from .keeper import Beat, Keeper, Letters, Link, find_deliveries
 from .metrics import MetricsFile, Row, Value
 from .process import HELD, Run
 from .retry import Pauses
@@ -26,6 +26,7 @@ MOST_ENDS = 5  # of handlers in a row that had not worked
 IDLE = 60_000  # milliseconds: the default of --idle of stream_run
 COUNTS = re.compile(r"done ([0-9]+), batches ([0-9]+), left pending ([0-9]+)(?:, dead letters ([0-9]+))?")
 FAILED_JOB = re.compile(r"the child(?:'s reply| has no reply) to the entry ([0-9]+-[0-9]+)")
+REFUSED = re.compile("Error: the child's reply to the entry ([0-9]+-[0-9]+) ")
 NOTE = re.compile("([0-9]+-[0-9]+) ((?:later|dead): .*)")
 NO_GROUP = "the server answers NOGROUP"
 
@@ -76,16 +77,23 @@ class Pair(Tries):
         finally:
             if self.beat is not None:
                 self.beat.finish()
+            self.link.close()
 
     def make_run(self, connection: socket.socket) -> Run:
         """Starts a handler, and returns a run of stream_run that has it at the other end of two pipes."""
+        if self.beat is not None:
+            self.beat.begin()
         later = self.keeper.hold if self.keeper is not None else lambda _: None
-        self.child = child = Child(self.handling, f"{self.name}: ", self.desk, later)
+        deliveries = self._deliveries if self.handling.has_deliveries else None
+        self.child = child = Child(self.handling, f"{self.name}: ", self.desk, later, deliveries)
         self.desk.handlers += 1
         words = [*self.program_words(), "--lines", f"/dev/fd/{child.lines}", "--replies", f"/dev/fd/{child.replies}"]
         run = Run(words, connection, self.plan.silence, self.plan.options.timeout, (child.lines, child.replies))
         run.grace = self.handling.grace + CLOSING
         return run
+
+    def _deliveries(self, job: str) -> Optional[int]:
+        return find_deliveries(self.link, self.plan.words, job)
 
     def begun(self, run: Run) -> None:
         """Has the handler watched."""
@@ -188,17 +196,24 @@ class Pair(Tries):
 
     def hear(self, line: str) -> bool:
         """Takes a line of stream_run. Its counts are told, and shown unless --quiet is given."""
-        note, found = NOTE.fullmatch(line), COUNTS.fullmatch(line)
+        note, found, refused = NOTE.fullmatch(line), COUNTS.fullmatch(line), REFUSED.match(line)
         if note is not None and self.handling.is_direct:
             self.desk.note(note[1], note[2])
+            self._has_replied(1)
+        if refused is not None and self.child is not None:
+            self.child.take_back(refused[1])
         if found is None:
             return super().hear(line)
-        if self.child is not None and self.handling.is_direct:
-            self.child.count = int(found[1]) + int(found[3])
+        self._has_replied(int(found[1]) + int(found[3]))
         self.entries = int(found[1])
         self.figures.set({"entries": self.entries, "batches": int(found[2]), "dead_letters": int(found[4] or 0)})
         self.tell_figures(self.figures_of_jobs())
         return not self.plan.is_quiet
+
+    def _has_replied(self, times: int) -> None:
+        """Takes that the handler replied so often at least, if no relay counts that."""
+        if self.child is not None and self.handling.is_direct:
+            self.child.count = max(self.child.count, times)
 
     def figures_of_jobs(self) -> Dict[str, Value]:
         """Returns what all runs together did."""

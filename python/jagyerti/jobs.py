@@ -8,10 +8,13 @@ import os
 import signal
 import sys
 import traceback
-from typing import Any, BinaryIO, Callable, Dict, List, NamedTuple, Optional, Tuple, Union
+from typing import Any, BinaryIO, Callable, Dict, List, Mapping, NamedTuple, Optional, Tuple, Union
 
 Field = Union[str, bytes]
+Value = Union[str, bytes, int, float]
 MOST_TEXT = 1000  # bytes of the text that goes with a reply
+MOST_REPLY = 65536  # bytes of a reply, without its line feed
+ADDING = b'{"done":true,"add":[%b]}'
 READ_JSON = json.JSONDecoder().raw_decode  # a third of the time of json.loads, for a short line
 
 
@@ -20,20 +23,27 @@ class Later(Exception):
 
 
 class Dead(Exception):
-    """A handler raises it for a job that no further try can help. Its text goes to the dead letters."""
+    """A handler raises it for a job that no further try can help. With --dead its text goes to the dead letters, at once."""
 
 
 class Stop(Exception):
     """A handler raises it to end the worker. The job stays pending."""
 
 
-class Job(NamedTuple):
-    """An entry of a stream. A name or a value is bytes if it is not UTF-8."""
-
+class _Entry(NamedTuple):
     id: str
     pairs: List[Tuple[Field, Field]]
     stream: Optional[str] = None
     deliveries: Optional[int] = None
+
+
+class Job(_Entry):
+    """An entry of a stream. A name or a value is bytes if it is not UTF-8.
+
+    `deliveries` is how often it was delivered so far, with `jagyerti run --deliveries`. `added` is for the reply.
+    """
+
+    added: bytes = b""
 
     @property
     def fields(self) -> Dict[Field, Field]:
@@ -44,6 +54,22 @@ class Job(NamedTuple):
         """Returns the last value of a field, which has to be text. Raises KeyError or UnicodeDecodeError."""
         value = self.fields[name]
         return value if isinstance(value, str) else value.decode()
+
+
+    def add(self, stream: Field, fields: Mapping[Field, Value]) -> None:
+        """Adds an entry to another stream once the job is done, before it is acknowledged; nothing if the handler raises.
+
+        Numbers are written as `str` does it. Raises ValueError if there is no name of a stream or no field, if a name or a
+        value is no text in UTF-8 and no number, and if the entries of the job make its reply longer than 64 KiB.
+        """
+        if not stream or not fields:
+            raise ValueError("an entry wants the name of its stream, and one field at least")
+        entry = [_text(stream), {_text(name): _text(value) for name, value in fields.items()}]
+        added = json.dumps(entry, ensure_ascii=False, separators=(",", ":")).encode()
+        added = b"%b,%b" % (self.added, added) if self.added else added
+        if len(ADDING % added) > MOST_REPLY:
+            raise ValueError(f"the entries that a job adds make a reply of more than {MOST_REPLY} bytes")
+        self.added = added
 
 
 Handle = Callable[[Job], Any]
@@ -65,15 +91,24 @@ def _field(value: Any) -> Field:
     return base64.b64decode(value["base64"], validate=True)
 
 
+def _text(value: Value) -> str:
+    """Returns a name or a value as text."""
+    if isinstance(value, bytes):
+        return value.decode()
+    if isinstance(value, (str, int, float)) and not isinstance(value, bool):
+        return str(value)
+    raise ValueError(f"{value!r} is no text and no number")
+
+
 def reply_to(handle: Handle, job: Job) -> bytes:
     """Calls the handler. Returns the line that says what became of the job.
 
-    The job is done if the handler returns. An exception other than those of this module is shown on standard error, and
-    the job comes again later.
+    The job is done if the handler returns. What it added is in the line then. An exception other than those of this module
+    is shown on standard error, and the job comes again later.
     """
     try:
         handle(job)
-        return b"done\n"
+        return ADDING % job.added + b"\n" if job.added else b"done\n"
     except Stop:
         return b"stop\n"
     except (Later, Dead) as said:

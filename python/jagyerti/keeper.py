@@ -17,6 +17,7 @@ from typing import Callable, Dict, Optional, Sequence, Set
 
 from . import connect, resp
 from .connect import Failed
+from .dead_letters import Letter, letter_of
 from .desk import Desk
 from .url import Address
 
@@ -59,7 +60,9 @@ class Link:
                     raise Failed("no server is known yet")
                 self.connection = connect.open(server, self.options)
             return resp.ask(self.connection, *words)
-        except resp.ReplyError:
+        except resp.ReplyError as error:
+            if error.code == "MOVED":  # the next question goes to the node that stream_run found then
+                self._drop()
             raise
         except (OSError, resp.ProtocolError, Failed) as error:
             self.rests_until = 0.0 if self.connection is not None else time.monotonic() + REST
@@ -81,6 +84,16 @@ class Link:
         """Closes the connection."""
         with self.lock:
             self._drop()
+
+
+def find_deliveries(link: Link, words: Sequence[str], job: str) -> Optional[int]:
+    """Returns how often the entry of a job was delivered so far, None if the server does not say. `words` are KEY and GROUP."""
+    try:
+        rows = link.ask("XPENDING", words[0], words[1], job, job, 1)
+    except (Failed, resp.ReplyError) as error:
+        link.complain("how often a job was delivered is not known", error)
+        return None
+    return int(rows[0][3]) if rows else None
 
 
 class Keeper:
@@ -160,31 +173,36 @@ class Keeper:
 
 
 class Letters:
-    """Looks for dead letters, and says of each why its job failed last, if that is known here."""
+    """Looks for dead letters, and says of each why its job failed last, if that is known here.
+
+    A letter that has a reason itself is of a reply whose text was shown before, so that is not said again.
+    """
 
     def __init__(self, link: Link, stream: str, desk: Desk, say: Callable[[str], None]) -> None:
         self.link, self.stream, self.desk, self.say = link, stream, desk, say
         self.last: Optional[str] = None
 
-    def tick(self) -> None:
-        """Takes the letters that came since the last time."""
+    def begin(self) -> None:
+        """Passes over the letters that are there, once."""
         if self.last is None:
             found = self.link.ask("XREVRANGE", self.stream, "+", "-", "COUNT", 1)
             self.last = found[0][0].decode() if found else "0-0"
+
+    def tick(self) -> None:
+        """Takes the letters that came since the last time."""
+        self.begin()
         while True:
             letters = self.link.ask("XRANGE", self.stream, f"({self.last}", "+", "COUNT", PAGE) if self.desk.reasons else []
-            for one, fields in letters:
-                self.last = one.decode()
-                self._tell(dict(zip(fields[0:4:2], fields[1:4:2])))
+            for row in letters:
+                self.last = row[0].decode()
+                self._tell(letter_of(row))
             if len(letters) < PAGE:
                 return
 
-    def _tell(self, fields: Dict[bytes, bytes]) -> None:
-        job = fields.get(b"entry", b"").decode(errors="replace")
-        why = self.desk.reasons.pop(job, None)
+    def _tell(self, letter: Letter) -> None:
+        why = self.desk.reasons.pop(letter.entry or "", None)
         if why is not None:
-            times = fields.get(b"deliveries", b"?").decode(errors="replace")
-            self.say(f"{job} was given up after {times} deliveries: {why}")
+            self.say(f"{letter.entry} was given up after {letter.times}" + (f": {why}" if letter.why is None else ""))
 
 
 class Beat(threading.Thread):
@@ -195,6 +213,12 @@ class Beat(threading.Thread):
         self.link, self.keeper, self.letters = link, keeper, letters
         self.seconds = BEAT if keeper is None else max(0.01, min(BEAT, keeper.idle / 4))
         self.is_adopted, self.ended = False, threading.Event()
+
+    def begin(self) -> None:
+        """Has the letters known that are there before the first job."""
+        with contextlib.suppress(Failed, resp.ReplyError):
+            if self.letters is not None:
+                self.letters.begin()
 
     def run(self) -> None:
         """Calls until `finish`."""
@@ -214,9 +238,8 @@ class Beat(threading.Thread):
                 self.letters.tick()
 
     def finish(self) -> None:
-        """Calls each a last time, and closes the connection."""
+        """Calls each a last time."""
         self.ended.set()
         if self.is_alive():
             self.join(REST)
         self.look()
-        self.link.close()

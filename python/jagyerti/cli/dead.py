@@ -21,7 +21,8 @@ Dead letters are the entries that a worker gave up: 'jagyerti drain --dead 3 ord
 
   list     a line for each letter: its id, the id of the entry, its deliveries, and the reason if it has one
   show     the fields of each letter, or of these letters
-  replay   adds the entry of each letter to the stream of --to, and deletes the letter, in one step of the server
+  replay   adds the entry of each letter to the stream of --to, without the reason, and deletes the letter, in one step of
+           the server
   drop     deletes each letter
 
 replay and drop want ids, or --all. A letter is replayed once, however often this is called: it is gone after it. All groups
@@ -88,9 +89,8 @@ def list_letters(connection: socket.socket, stream: str, ids: List[str], argumen
         elif letter.entry is None:
             print(f"{letter.id}  is no dead letter")
         else:
-            times = "1 delivery" if letter.deliveries == 1 else f"{letter.deliveries} deliveries"
             reason = "" if letter.reason is None else f"  reason: {on_one_line(letter.reason)}"
-            print(f"{letter.id}  entry {letter.entry}  {times}{reason}")
+            print(f"{letter.id}  entry {letter.entry}  {letter.times}{reason}")
     return 0
 
 
@@ -104,7 +104,8 @@ def show_letters(connection: socket.socket, stream: str, ids: List[str], argumen
             print(json.dumps(as_json(letter), ensure_ascii=False))
         else:
             print(letter.id)
-            about = [] if letter.entry is None else [("entry", letter.entry), ("deliveries", str(letter.deliveries))]
+            about = [] if letter.why is None else [("reason", on_one_line(letter.why))]
+            about += [] if letter.entry is None else [("entry", letter.entry), ("deliveries", str(letter.deliveries))]
             for name, value in about + [(on_one_line(name), on_one_line(value)) for name, value in letter.fields]:
                 print(f"    {name}: {value}")
     return status
@@ -176,9 +177,10 @@ def refusal(error: resp.ReplyError, id: str, stream: str, onto: str) -> str:
 
 
 def as_json(letter: Letter) -> Dict[str, Any]:
-    """Returns a letter as JSON has it: fields are pairs, since a name may be there twice."""
+    """Returns a letter as JSON has it: fields are pairs, since a name may be there twice. A reason is there if it has one."""
     fields = [[as_text(name), as_text(value)] for name, value in letter.fields]
-    return {"id": letter.id, "entry": letter.entry, "deliveries": letter.deliveries, "fields": fields}
+    reason = {} if letter.why is None else {"reason": as_text(letter.why)}
+    return {"id": letter.id, **reason, "entry": letter.entry, "deliveries": letter.deliveries, "fields": fields}
 
 
 ACTING = {"list": list_letters, "show": show_letters, "replay": replay_letters, "drop": drop_letters}

@@ -24,6 +24,9 @@ replies with a line on its standard output: 'done', 'later TEXT', 'dead TEXT' or
 'done', and never before. One line is on the way at a time. What COMMAND prints on standard error is shown with the name
 of its consumer.
 
+The reply {"done":true,"add":[["results",{"id":"7"}]]} is 'done' too, and adds entries to other streams first. With --dead N
+STREAM an entry that is replied 'dead TEXT' goes to STREAM at once, and any other after N deliveries.
+
 All other options are those of stream_run, which 'jagyerti run -- --help' shows. CONSUMER is the host's name, if it is
 left out. With --processes N there are N commands, each with a stream_run, as CONSUMER.1 to CONSUMER.N.
 
@@ -71,9 +74,13 @@ def add_parser(subparsers: Any) -> None:
                        "delivery, and up to a quarter more by chance; else after --idle, or at once if the command ended")
     group.add_argument("--retry-most", metavar="SECONDS", type=seconds, default=None,
                        help="--retry-after grows up to so long (3600)")
+    group.add_argument("--deliveries", action="store_true",
+                       help='each line ends with "deliveries":N, how often its entry was delivered so far, with this time; each '
+                       "job costs a request more")
     group.add_argument("--direct", action="store_true",
                        help="the command and stream_run share two pipes: a job costs less, but nothing sees a reply that comes "
-                       "before its line, which is taken for the reply to it; not with --job-timeout, --retry-after, --metrics")
+                       "before its line, which is taken for the reply to it; not with --job-timeout, --retry-after, --metrics, "
+                       "--deliveries")
     group.add_argument("--line-buffered", action="store_true",
                        help="the command is started with 'stdbuf -oL', so that a program of C prints each line at once")
     group.add_argument("--grace", metavar="SECONDS", type=seconds, default=25.0,
@@ -109,12 +116,13 @@ def handling_of(arguments: argparse.Namespace) -> Handling:
     after, most = arguments.retry_after, arguments.retry_most
     if most is not None and (after is None or most < after):
         raise Failed("--retry-most is for --retry-after, and not below it", USAGE)
-    if arguments.direct and (arguments.job_timeout is not None or after is not None or arguments.metrics):
-        raise Failed("--direct excludes --job-timeout, --retry-after and --metrics, which want each reply seen", USAGE)
+    if arguments.direct and (arguments.job_timeout is not None or after is not None or arguments.metrics or arguments.deliveries):
+        raise Failed("--direct excludes --job-timeout, --retry-after, --metrics and --deliveries, which want each line and "
+                     "each reply seen", USAGE)
     find_command(arguments.after)
     command = line_buffered(arguments.after) if arguments.line_buffered else arguments.after
     return Handling(command, arguments.job_timeout, arguments.grace, after, max(3600.0, after or 0) if most is None else most,
-                    arguments.direct)
+                    arguments.direct, arguments.deliveries)
 
 
 def line_buffered(command: List[str]) -> List[str]:
