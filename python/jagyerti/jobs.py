@@ -111,8 +111,10 @@ def reply_to(handle: Handle, job: Job) -> bytes:
         return ADDING % job.added + b"\n" if job.added else b"done\n"
     except Stop:
         return b"stop\n"
-    except (Later, Dead) as said:
-        return _line("later" if isinstance(said, Later) else "dead", str(said))
+    except Later as said:
+        return _line("later", str(said))
+    except Dead as said:
+        return _line("dead", str(said).strip() or "no reason is said")
     except Exception as error:  # pylint: disable=broad-except
         traceback.print_exc()
         return _line("later", f"{type(error).__name__}: {error}")

@@ -18,7 +18,7 @@ idle, count, dead = value("--idle", "60000"), value("--count", "10"), value("--d
 lines = open(value("--lines", ""), "wb", buffering=0)
 replies = open(value("--replies", ""), "rb")
 connection = socket.socket(fileno=os.dup(0))
-counts = dict(done=0, batches=0, left=0, letters=0)
+counts, added, lost = dict(done=0, batches=0, left=0, letters=0), [], []
 
 def end(status, error=""):
     letters = ", dead letters %d" % counts["letters"] if dead != "0" else ""
@@ -36,9 +36,32 @@ def ask(*command):
         end(1, command[0] + ": the server closed the connection")
 
 def acknowledge(ids):
+    for stream, fields in added:
+        ask("XADD", stream, "*", *(text for field in fields.items() for text in field))
+    added.clear()
     if ids:
         counts["done"] += ask("XACK", key, group, *ids)
         counts["batches"] += 1
+    for id, text in lost:
+        for _, _, _, deliveries in ask("XPENDING", key, group, id, id, 1):
+            add_letter(id, deliveries, "reason", text)
+    lost.clear()
+
+def add_letter(id, deliveries, *reason):
+    for _, fields in ask("XCLAIM", key, group, consumer, 0, id):
+        ask("XADD", value("--dead", "", 2), "*", *reason, "entry", id, "deliveries", deliveries, *fields)
+        ask("XACK", key, group, id)
+        counts["letters"] += 1
+
+def is_done(reply):
+    try:
+        it = json.loads(reply)
+        rows = it.get("add", [])
+        return it["done"] is True and not it.keys() - {{"done", "add"}} and all(
+            len(row) == 2 and type(row[0]) is str and row[0] and type(row[1]) is dict and row[1]
+            and all(type(text) is str for text in row[1].values()) for row in rows)
+    except (ValueError, AttributeError, TypeError, KeyError):
+        return False
 
 def handle(entries):
     ids = []
@@ -52,25 +75,29 @@ def handle(entries):
         reply = replies.readline()
         if reply == b"done\\n":
             ids.append(id)
+        elif reply[:1] == b"{{" and is_done(reply):
+            ids.append(id)
+            added.extend(json.loads(reply).get("add", []))
         elif reply.startswith((b"later", b"dead ")):
             counts["left"] += 1
             word, _, text = reply.decode().strip().partition(" ")
             if text:
                 print("%s %s: %s" % (it["id"], word, text), file=sys.stderr, flush=True)
+            if word == "dead" and dead != "0":
+                lost.append((id, text))
         else:
             acknowledge(ids)
             if reply == b"stop\\n":
                 end(0)
+            if reply:
+                end(4, "the child's reply to the entry %s is not done, later, dead or stop: " % it["id"] + reply.decode().strip())
             end(4, "the child has no reply to the entry %s: its output ended before a reply" % it["id"])
     acknowledge(ids)
 
 def give_up(*where):
     for id, _, _, deliveries in ask("XPENDING", key, group, *where) if dead != "0" else ():
         if deliveries >= int(dead):
-            for _, fields in ask("XCLAIM", key, group, consumer, 0, id):
-                ask("XADD", value("--dead", "", 2), "*", "entry", id, "deliveries", deliveries, *fields)
-                ask("XACK", key, group, id)
-                counts["letters"] += 1
+            add_letter(id, deliveries)
 
 if "--from" in words:
     try:

@@ -19,6 +19,7 @@ from jagyerti.cli import main
 from .scripted import scripted
 
 LETTER = ("entry", "5-0", "deliveries", "3")
+REASONED = ("reason", "no\torder", *LETTER)
 
 
 def called(*words: str) -> Tuple[int, str, str]:
@@ -101,6 +102,32 @@ class DeadLettersTest(unittest.TestCase):
         status, shown, error = self.dead("show", "d", "1-0", "9-0", "--json")
         self.assertEqual((status, [json.loads(line)["id"] for line in shown.splitlines()]), (1, ["1-0"]))
         self.assertIn("9-0: no such letter in d", error)
+
+    def test_letters_with_a_reason_before_their_fields(self) -> None:
+        self.ask("XADD", "d", "1-0", *REASONED, "reason", "its own", "item", "tea")
+        self.ask("XADD", "d", "2-0", "reason", "", "entry", "6-0", "deliveries", "1", "entry", "x", "deliveries", "y")
+        others = (("reason", "x"), ("reason", "x", "item", "tea"), ("reason", "x", "entry", "6-0"), ("reason", "x", "reason", "y", *LETTER),
+                  ("reason", "x", "entry", "6-0", "deliveries", "many"), ("reason", "x", "deliveries", "3", "entry", "6-0"))
+        for at, fields in enumerate(others, 3):
+            self.ask("XADD", "d", f"{at}-0", *fields)
+        lines = self.dead("list", "d")[1].splitlines()
+        self.assertEqual(lines[:2], ["1-0  entry 5-0  3 deliveries  reason: no\\torder", "2-0  entry 6-0  1 delivery  reason: "])
+        self.assertEqual(lines[2:], [f"{at}-0  is no dead letter" for at in range(3, 3 + len(others))])
+        self.assertEqual(self.dead("show", "d", "1"), (0, "1-0\n    reason: no\\torder\n    entry: 5-0\n    deliveries: 3\n"
+                                                          "    reason: its own\n    item: tea\n", ""))
+        rows = [json.loads(line) for line in self.dead("show", "--json", "d", "1-0", "2-0", "3-0")[1].splitlines()]
+        self.assertEqual(rows, [
+            {"id": "1-0", "reason": "no\torder", "entry": "5-0", "deliveries": 3, "fields": [["reason", "its own"], ["item", "tea"]]},
+            {"id": "2-0", "reason": "", "entry": "6-0", "deliveries": 1, "fields": [["entry", "x"], ["deliveries", "y"]]},
+            {"id": "3-0", "entry": None, "deliveries": None, "fields": [["reason", "x"]]}])
+        self.ask("XADD", "k", "1-0", "n", "old")
+        for id in ("1-0", "2-0"):
+            self.assertEqual(self.dead("replay", "d", id, "--to", "k")[0], 0)
+        self.assertEqual([fields for _, fields in self.ask("XRANGE", "k", "2", "+")],
+                         [[b"reason", b"its own", b"item", b"tea"], [b"entry", b"x", b"deliveries", b"y"]])
+        for at in (3, 4, 5, 6, 8):
+            self.assertIn("no dead letter", self.dead("replay", "d", f"{at}-0", "--to", "k")[2])
+        self.assertEqual(self.dead("drop", "d", "3-0")[:2], (0, "3-0: dropped\n"))
 
     def test_a_stream_without_letters(self) -> None:
         for words in (("list", "d"), ("list", "--json", "d"), ("show", "d"), ("drop", "d", "--all"), ("replay", "d", "--to", "k", "--all")):

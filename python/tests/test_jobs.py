@@ -30,6 +30,12 @@ class ReadJob(unittest.TestCase):
         with self.assertRaises(KeyError):
             job.text("item")
 
+    def test_a_job_is_a_tuple(self):
+        job = Job("1-0", [("a", "b")], deliveries=3)
+        self.assertEqual((tuple(job), job._replace(id="2-0").id), (("1-0", [("a", "b")], None, 3), "2-0"))
+        job.add("s", {"a": "b"})
+        self.assertEqual((job, job.added != b""), (Job("1-0", [("a", "b")], None, 3), True))
+
     def test_deliveries_are_read_if_they_are_known(self):
         self.assertEqual(jobs.read_job(b'{"id":"1-0","fields":[],"stream":"s","deliveries":3}').deliveries, 3)
 
@@ -61,6 +67,45 @@ class Replies(unittest.TestCase):
         reply = self.reply(raise_it(Later("ä" * 100_000)))
         self.assertLess(len(reply), 2000)
         self.assertEqual(reply.decode().strip("ä\n"), "later ")
+
+    def test_dead_has_a_text(self):
+        self.assertEqual(self.reply(raise_it(Dead())), b"dead no reason is said\n")
+
+    def test_what_a_job_adds_is_in_the_reply(self):
+        def handle(job):
+            job.add("results", {"id": "7", "n": 8, b"half": 0.5, "": b"\xc3\xa4"})
+            job.add("log", {"text": 'a "b"\n\x00'})
+
+        line = ('{"done":true,"add":[["results",{"id":"7","n":"8","half":"0.5","":"\u00e4"}],'
+                '["log",{"text":"a \\"b\\"\\n\\u0000"}]]}\n')
+        self.assertEqual(self.reply(handle), line.encode())
+        self.assertEqual(self.reply(lambda job: None), b"done\n")
+
+    def test_nothing_is_added_if_the_handler_raises(self):
+        for error, line in ((Stop(), b"stop\n"), (Later("x"), b"later x\n"), (Dead("x"), b"dead x\n"),
+                            (KeyError("x"), b"later KeyError: 'x'\n")):
+            def handle(job, error=error):
+                job.add("results", {"id": "7"})
+                raise error
+            self.assertEqual(self.reply(handle), line)
+
+    def test_what_cannot_be_added(self):
+        job = Job("1-0", [])
+        job.add("s", {"a": "b"})
+        for stream, fields in (("", {"a": "b"}), ("s", {}), (b"\xff", {"a": "b"}), ("s", {b"\xff": "b"}), ("s", {"a": b"\xff"}),
+                               ("s", {"a": "\ud800"}), ("s", {"a": None}), ("s", {"a": True}), ("s", {"a": ["b"]}), ("s", {2.5: None})):
+            with self.assertRaises(ValueError, msg=(stream, fields)):
+                job.add(stream, fields)
+        self.assertEqual(jobs.reply_to(lambda _: None, job), b'{"done":true,"add":[["s",{"a":"b"}]]}\n')
+
+    def test_a_reply_has_64_kib_at_most(self):
+        job = Job("1-0", [])
+        room = 65536 - len(b'{"done":true,"add":[["s",{"a":""}]]}')
+        job.add("s", {"a": "x" * room})
+        self.assertEqual(len(jobs.reply_to(lambda _: None, job)), 65537)
+        for more in (Job("1-0", []), job):
+            with self.assertRaises(ValueError):
+                more.add("s", {"a": "x" * (room + 1)})
 
     def test_an_exit_is_no_reply(self):
         with self.assertRaises(SystemExit):

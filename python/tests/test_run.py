@@ -37,16 +37,22 @@ while {waits} and os.read(0, 100):
     pass
 print("done {jobs}, batches 1, left pending 0", file=sys.stderr)
 """
+# The same, but it refuses a line of JSON whose member "done" is not true, as stream_run does.
+REFUSING = FAKE.replace("if not reply:", """if reply[:1] == b"{{" and b'"done":true' not in reply:
+        print(f"done {{k - 1}}, batches 1, left pending 0\\nError: the child's reply to the entry {{k}}-0 is not done, later, dead "
+              "or stop", file=sys.stderr)
+        sys.exit(4)
+    if not reply:""")
 DONE = "import sys\nfor line in sys.stdin:\n    print('done', flush=True)\n"
 PYTHON = "from jagyerti import handler\n@handler\ndef handle(job):\n"
 
 
 class Run(Running):
-    def begin(self, handler, *words, jobs=2, waits=False):
+    def begin(self, handler, *words, jobs=2, waits=False, program=FAKE):
         """Starts 'jagyerti run' with this handler. Returns it; its connections are accepted by themselves."""
         path = os.path.join(self.folder, "fake_run")
         with open(path, "w", encoding="ascii") as file:
-            file.write(FAKE.format(python=sys.executable, jobs=jobs, waits=waits))
+            file.write(program.format(python=sys.executable, jobs=jobs, waits=waits))
         os.chmod(path, 0o755)
         script = os.path.join(self.folder, "handler.py")
         with open(script, "w", encoding="ascii") as file:
@@ -152,8 +158,31 @@ class Run(Running):
         said = self.said(self.of_command("sh", "-c", script, options=["--direct"]), 0)
         self.assertIn("reply 1 b'done\\n'\nreply 2 b'done\\n'\ndone 2, batches 1, left pending 0\n", said)
         self.assertIn(": ends\n", said)
-        for words in (["--job-timeout", "1"], ["--retry-after", "1"], ["--metrics", "x"]):
+        for words in (["--job-timeout", "1"], ["--retry-after", "1"], ["--metrics", "x"], ["--deliveries"]):
             self.assertIn("--direct excludes", self.said(self.of_command("true", options=["--direct", *words]), 2))
+
+    def test_a_line_of_json_is_passed_on(self):
+        line = '{"add":[["results",{"id":"7"}]],"done":true}'
+        path = os.path.join(self.folder, "metrics")
+        said = self.said(self.begin(f"import sys\nfor line in sys.stdin:\n    print({line!r}, flush=True)\n", "--metrics", path,
+                                    program=REFUSING), 0)
+        self.assertIn(f"reply 1 {line.encode() + bytes([10])!r}\n", said)
+        self.assertEqual(self.metrics(path)["stream_run_done_total"], [2])
+
+    def test_a_line_of_json_that_is_refused_is_no_reply(self):
+        path = os.path.join(self.folder, "metrics")
+        handler = "import sys\nfor line in sys.stdin:\n    print('{}', flush=True)\n".replace("{}", '{"done":false}')
+        said = self.said(self.begin(handler, "--pause", "0.02", "--metrics", path, program=REFUSING), 4)
+        self.assertEqual(said.count("is not done, later, dead or stop"), 5)
+        self.assertIn("it ended 5 times in a row before any reply", said)
+        self.assertEqual(self.metrics(path)["stream_run_done_total"], [0])
+
+    def test_deliveries_that_the_server_does_not_say(self):
+        said = self.said(self.begin("import sys\nfor line in sys.stdin:\n    print('got', line.rstrip(), file=sys.stderr, flush=True)\n"
+                                    "    print('done', flush=True)\n", "--deliveries", "--timeout", "0.3"), 0)
+        self.assertIn('got {"id":"1-0","fields":[["k","1"]],"stream":"k"}\n', said)
+        self.assertIn("done 2, batches 1", said)
+        self.assertEqual(said.count("jagyerti run: how often a job was delivered is not known: "), 1)
 
     def test_direct_with_a_handler_that_ends(self):
         said = self.said(self.of_command("sh", "-c", "read line; exit 3", options=["--direct", "--pause", "0.02"]), 4)
@@ -375,6 +404,41 @@ class Relays(unittest.TestCase):
         self.relay.start()
         self.relay.join(20)
         self.assertFalse(self.relay.is_alive())
+
+    def test_deliveries_are_the_last_member_of_a_line(self):
+        times = {"1-0": 3, "2-0": 12, "3-0": None}
+        self.relay.deliveries = times.get
+        self.relay.start()
+        for id in times:
+            for more in (b"", b"x" * 9, b"x" * 65535, b"x" * 200_000):
+                for size in (1 << 20, 65536):
+                    line = b'{"id":"%b","fields":[["a","%b"]]}\n' % (id.encode(), more)
+                    writing = threading.Thread(target=lambda: [os.write(self.line, line[at:at + size]) for at in range(0, len(line), size)])
+                    writing.start()
+                    got = b""
+                    while not got.endswith(b"\n"):
+                        got += os.read(self.lines, 1 << 20)
+                    writing.join()
+                    wanted = line if times[id] is None else line[:-2] + b',"deliveries":%d}\n' % times[id]
+                    self.assertTrue(got == wanted, (id, len(more), got[-50:]))
+                    os.write(self.reply, b"done\n")
+                    self.assertEqual(os.read(self.replies, 100), b"done\n")
+        self.assertEqual((self.relay.count, self.desk.counts["done"]), (24, 24))
+
+    def test_deliveries_of_a_line_in_two_pieces(self):
+        self.relay.deliveries = lambda _: 7
+        self.relay.start()
+        line = b'{"id":"1-0","fields":[]}\n'
+        for at in range(12, len(line)):
+            for piece in (line[:at], line[at:]):
+                os.write(self.line, piece)
+                time.sleep(0.02)
+            got = b""
+            while not got.endswith(b"\n"):
+                got += os.read(self.lines, 100)
+            self.assertEqual(got, b'{"id":"1-0","fields":[],"deliveries":7}\n')
+            os.write(self.reply, b"done\n")
+            os.read(self.replies, 100)
 
     def test_a_reply_that_was_there_before_the_line_is_none(self):
         os.write(self.reply, b"done\n")
