@@ -193,6 +193,7 @@ class Asked(unittest.TestCase):
         with scripted([row, b"*0\r\n", b"-NOPERM no\r\n", b"-NOPERM no\r\n", row]) as (port, noted):
             link, said = self.link(port)
             self.assertEqual([keeper.find_deliveries(link, ["k", "g", "c"], "1-0") for _ in range(5)], [3, None, None, None, 3])
+            link.close()
         self.assertEqual(noted[0], [b"XPENDING", b"k", b"g", b"1-0", b"1-0", b"1"])
         self.assertEqual(said, ["how often a job was delivered is not known: NOPERM no"])
 
@@ -201,6 +202,7 @@ class Asked(unittest.TestCase):
             link, said = self.link(port, other)
             for _ in range(2):
                 keeper.find_deliveries(link, ["k", "g", "c"], "1-0")
+            link.close()
         self.assertEqual((len(noted), len(said)), (1, 1))
 
     def test_a_server_that_is_gone(self):
