@@ -136,7 +136,7 @@ class Relay(threading.Thread):
             if not piece:
                 return False
             reply += piece
-        said = self.desk.end(reply)
+        said = self.desk.end(reply) if len(reply) <= PIECE or reply.find(b"\n") <= PIECE else None
         self.count += said is not None
         if said == LATER and line is not None:
             self.later(id_of(line))

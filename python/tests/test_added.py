@@ -1,9 +1,8 @@
 """jagyerti run over redis-server: entries that jobs add, jobs that are given up at once, and how often each was delivered."""
-import os
-import sys
 import unittest
 
 from jagyerti import Dead, Later, Worker, connect, dead_letters, keeper
+from jagyerti.desk import Desk
 from jagyerti.process import PACKAGES
 from jagyerti.url import Address
 
@@ -176,6 +175,23 @@ class Deliveries(OfJobs):
         said = self.said("--deliveries")
         self.assertEqual((self.times("1-0"), self.times("2-0")), ([0], [0]))
         self.assertEqual(said.count("how often a job was delivered is not known: NOPERM"), 1)
+
+
+class Told(Live):
+    def test_a_letter_of_each_form(self):
+        link, desk, said = keeper.Link(lambda: Address.parse(self.server.url), connect.Options(), self.fail), Desk(), []
+        self.addCleanup(link.close)
+        letters = keeper.Letters(link, "lost", desk, said.append)
+        self.server.ask("XADD", "lost", "*", "entry", "1-0", "deliveries", 3, "a", "b")
+        for job in range(1, 7):
+            desk.note(f"{job}-0", f"later: {job}")
+        letters.begin()
+        for first, job, times in (([], 2, 4), (["reason", "no order"], 3, 1), ([], 4, 1), (["reason", "x"], 9, 1), (["more", "x"], 5, 1)):
+            self.server.ask("XADD", "lost", "*", *first, "entry", f"{job}-0", "deliveries", times, "reason", "of the entry")
+        letters.tick()
+        self.assertEqual(said, ["2-0 was given up after 4 deliveries: later: 2", "3-0 was given up after 1 delivery",
+                                "4-0 was given up after 1 delivery: later: 4"])
+        self.assertEqual(sorted(desk.reasons), ["1-0", "5-0", "6-0"])
 
 
 class Asked(unittest.TestCase):

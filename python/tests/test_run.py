@@ -405,6 +405,24 @@ class Relays(unittest.TestCase):
         self.relay.join(20)
         self.assertFalse(self.relay.is_alive())
 
+    def reply_of(self, size):
+        """Has a job replied to by a line of this size. Returns how many replies that is, and the job in hand."""
+        self.relay.start()
+        os.write(self.line, b'{"id":"1-0"}\n')
+        os.read(self.lines, 100)
+        threading.Thread(target=lambda: os.write(self.reply, b"{" + b" " * (size - 1) + b"\n")).start()
+        got = b""
+        while not got.endswith(b"\n"):
+            got += os.read(self.replies, 100_000)
+        self.assertEqual(len(got), size + 1)
+        return self.relay.count, self.desk.in_hand
+
+    def test_the_longest_reply(self):
+        self.assertEqual(self.reply_of(65536), (1, None))
+
+    def test_a_reply_that_is_too_long_is_none(self):
+        self.assertEqual(self.reply_of(65537), (0, "1-0"))
+
     def test_deliveries_are_the_last_member_of_a_line(self):
         times = {"1-0": 3, "2-0": 12, "3-0": None}
         self.relay.deliveries = times.get

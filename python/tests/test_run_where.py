@@ -90,6 +90,23 @@ class Where(Live):
             self.until(lambda: all(len(self.times(f"2{at}-0")) == 2 for at in range(3)))
             self.stop(running)
 
+    def test_entries_are_sent_on_within_a_slot(self):
+        with server.start_redis("--cluster-enabled", "yes", "--cluster-port", str(server.free_port())) as self.server:
+            self.server.ask("CLUSTER", "ADDSLOTSRANGE", 0, 16383)
+            self.until(lambda: b"cluster_state:ok" in self.server.ask("CLUSTER", "INFO"))
+            for at in range(2):
+                reply = '{"done":true,"add":[["results:{%d}",{"id":"7"}]]}' % at
+                for job, how in enumerate((reply, "dead no order", "done"), 1):
+                    self.server.ask("XADD", f"k:{{{at}}}", f"{job}{at}-0", "how", how, "times", 99)
+            said = self.run_until_empty(self.server.url, "--cluster", "--partitions", "2", "--dead", "5", "lost", "--deliveries")
+            for at in range(2):
+                self.assertEqual([fields for _, fields in self.server.ask("XRANGE", f"results:{{{at}}}", "-", "+")], [[b"id", b"7"]])
+                letter, = self.server.ask("XRANGE", f"lost:{{{at}}}", "-", "+")
+                self.assertEqual(letter[1][:6], [b"reason", b"no order", b"entry", b"2%d-0" % at, b"deliveries", b"1"])
+                self.assertIn(f"k:{{{at}}}: 2{at}-0 dead: no order\n", said)
+                self.assertIn(f"k:{{{at}}}: 2{at}-0 was given up after 1 delivery\n", said)
+                self.assertEqual(self.server.ask("XPENDING", f"k:{{{at}}}", "g")[0], 0)
+
     def test_wrong_words(self):
         for words, why in ((["--partitions", "2"], "are for --cluster"), (["--cluster"], "--cluster wants --partitions"),
                            (["--cluster", "--partitions", "2", "--processes", "2"], "--cluster and --processes exclude")):

@@ -75,8 +75,8 @@ def add_parser(subparsers: Any) -> None:
     group.add_argument("--retry-most", metavar="SECONDS", type=seconds, default=None,
                        help="--retry-after grows up to so long (3600)")
     group.add_argument("--deliveries", action="store_true",
-                       help='each line ends with "deliveries":N, how often its entry was delivered so far, with this time; each '
-                       "job costs a request more")
+                       help='each line ends with "deliveries":N, how often its entry was delivered so far, with this delivery; '
+                       "each job costs a request more")
     group.add_argument("--direct", action="store_true",
                        help="the command and stream_run share two pipes: a job costs less, but nothing sees a reply that comes "
                        "before its line, which is taken for the reply to it; not with --job-timeout, --retry-after, --metrics, "
