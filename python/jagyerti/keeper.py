@@ -59,7 +59,7 @@ class Link:
                 if server is None:
                     raise Failed("no server is known yet")
                 self.connection = connect.open(server, self.options)
-            return resp.ask(self.connection, *words)
+            return resp.ask_all(self.connection, [words])[0]  # which reads more than a byte at once
         except resp.ReplyError as error:
             if error.code == "MOVED":  # the next question goes to the node that stream_run found then
                 self._drop()
