@@ -12,6 +12,8 @@ from typing import Any, BinaryIO, Callable, Dict, List, Mapping, NamedTuple, Opt
 
 Field = Union[str, bytes]
 Value = Union[str, bytes, int, float]
+# The keys of a Mapping are of one type for mypy, so that of a Dict[str, str] is none of Mapping[Field, Value].
+Fields = Union[Mapping[str, Value], Mapping[bytes, Value], Mapping[Field, Value]]
 MOST_TEXT = 1000  # bytes of the text that goes with a reply
 MOST_REPLY = 65536  # bytes of a reply, without its line feed
 ADDING = b'{"done":true,"add":[%b]}'
@@ -56,7 +58,7 @@ class Job(_Entry):
         return value if isinstance(value, str) else value.decode()
 
 
-    def add(self, stream: Field, fields: Mapping[Field, Value]) -> None:
+    def add(self, stream: Field, fields: Fields) -> None:
         """Adds an entry to another stream once the job is done, before it is acknowledged; nothing if the handler raises.
 
         Numbers are written as `str` does it. Raises ValueError if there is no name of a stream or no field, if a name or a
