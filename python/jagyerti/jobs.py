@@ -12,8 +12,8 @@ from typing import Any, BinaryIO, Callable, Dict, List, Mapping, NamedTuple, Opt
 
 Field = Union[str, bytes]
 Value = Union[str, bytes, int, float]
-# The keys of a Mapping are of one type for mypy, so that of a Dict[str, str] is none of Mapping[Field, Value].
-Fields = Union[Mapping[str, Value], Mapping[bytes, Value], Mapping[Field, Value]]
+# Its keys are of Field; but then mypy would refuse a Dict[str, str], since the keys of a Mapping are of one type.
+Fields = Mapping[Any, Value]
 MOST_TEXT = 1000  # bytes of the text that goes with a reply
 MOST_REPLY = 65536  # bytes of a reply, without its line feed
 ADDING = b'{"done":true,"add":[%b]}'
