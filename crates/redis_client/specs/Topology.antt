@@ -1,3 +1,4 @@
 pub mod Cause
+pub mod Refusal
 pub mod Topology
 pub mod TopologyMeaning

@@ -2,6 +2,7 @@
 ghost use Rattle.std.specs.Prelude.{◌≡◌, IfOk, IfErr, Some, ⊤, option_map, string_bytes};
 ghost use Rattle.redis_resp.specs.FieldsMeaning.{fields_of};
 ghost use Rattle.redis_resp.specs.Refusal.{Refuses};
+ghost use Rattle.redis_client.specs.Topology.Refusal.{RefusesReplica};
 ghost use Rattle.redis_client.specs.Topology.Topology as maths;
 ghost use Rattle.redis_client.specs.Topology.Topology.{role_of, slots_node, shards_node, port_in};
 ghost use Rattle.redis_client.specs.Topology.TopologyMeaning.{node_meaning};
@@ -33,7 +34,7 @@ pub struct Node {
 /// Parses a replica in a row of CLUSTER SLOTS: an array of a host, a port, and more.
 pub(crate) fn read_replica<S: Source>(alloc: Global, v: S) -> Result<Node, ParsingError>
     ensures ok { IfOk result (λ r. slots_node (S.seen v) ≡ Some (node_meaning r)) }
-    ensures err { IfErr result (Refuses slots_node (λ _ _. ⊤) (S.seen v)) }
+    ensures err { IfErr result (Refuses slots_node RefusesReplica (S.seen v)) }
 {
     let mut parts = v.into_plain().into_array().ok_or(ParsingError::NotArray)?;
     let host = S::next_value(&mut parts).ok_or(ParsingError::NotArray)?;
