@@ -1,5 +1,6 @@
 //! The ids of the lines of a file.
-ghost use Rattle.std.specs.Prelude.{◌≡◌, ◌+◌, ◌∷◌, ◌++◌, [], Contains, IfOk, IfSome, IsNone, OnOk, Some, length, option_map, suc};
+ghost use Rattle.std.specs.Prelude.{◌≡◌, ◌≤◌, ◌+◌, ◌∷◌, ◌++◌, [], Contains, IfOk, IfSome, IsNone, OnOk, Some, drop};
+ghost use Rattle.std.specs.Prelude.{length, min, option_map, suc, take};
 ghost use Rattle.worker_journal.specs.LastLines.{lines_of};
 ghost use Rattle.worker_journal.specs.Lines.{HasNoEnd};
 ghost use Rattle.worker_journal.specs.KnownIds.Known.{places_in};
@@ -43,12 +44,26 @@ pub fn numbers_of_file<D: LogFile>(
     let mut start = 0;
     let mut at = 0;
     while at < len {
-        let more = PIECE.min(len - at);
-        let piece = file.read_at(alloc, at, more)?;
+        let left = len - at;
+        let piece = next_piece(alloc, file, at, left)?;
         take_piece(&mut ids, &mut start, &mut line, &piece, json)?;
-        at += more;
+        at += PIECE.min(left);
     }
     Ok(ids)
+}
+
+/// Reads a piece of the bytes that are left from `at`, or all of them if they are fewer.
+fn next_piece<D: LogFile>(
+    alloc: Global,
+    file: &D,
+    at: usize,
+    left: usize,
+) -> Result<Vec<u8>, LogError>
+    ensures few { IfOk result (λ piece. length piece.items ≤ PIECE) }
+    ensures bytes { IfOk result (λ piece. IfSome (D.seen file.now)
+        (λ bytes. piece.items ≡ take (min PIECE left) (drop at bytes))) }
+{
+    file.read_at(alloc, at, PIECE.min(left))
 }
 
 /// Takes more bytes of a file: appends the ids of the lines that they end. The start of the next line is kept.

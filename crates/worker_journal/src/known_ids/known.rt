@@ -86,9 +86,10 @@ impl KnownIds {
         }
     }
 
-    /// Reserves memory for one more. An `Err` changes nothing.
+    /// Reserves memory for one more. It cannot fail if there is room for one more. An `Err` changes nothing.
     pub fn make_room(&mut self) -> Result<(), AllocError>
         ensures room { OnOk result (HasRoom self.new.ids) }
+        ensures full { OnErr result (HasRoom self.old.ids → ⊥) }
         ensures same { self.new.ids.items ≡ self.old.ids.items }
     {
         self.ids.reserve(1)
