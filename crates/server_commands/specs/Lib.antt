@@ -32,3 +32,4 @@ pub mod Shown
 pub mod Stalled
 pub mod Stepping
 pub mod Streams
+pub mod Watching

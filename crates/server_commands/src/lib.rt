@@ -15,6 +15,7 @@ mod refusal;
 mod server;
 mod session;
 mod transaction;
+mod watching;
 mod writing;
 
 pub use answer::{Answer, Reply, Status};

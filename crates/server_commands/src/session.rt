@@ -1,8 +1,9 @@
 //! What a server knows of one connection.
-ghost use Rattle.std.specs.Prelude.{◌≡◌};
+ghost use Rattle.std.specs.Prelude.{◌≡◌, [], false};
 ghost use Rattle.server_commands.specs.Session.{new_session};
 
 use crate::commands::Plain;
+use crate::watching::Watched;
 use redis_wire::Protocol;
 use std::alloc::Global;
 use std::marker::Model;
@@ -19,6 +20,10 @@ pub struct Session {
     pub(crate) mode: Mode,
     /// The commands that EXEC is to execute.
     pub(crate) queue: Vec<Queued>,
+    /// The keys that WATCH named.
+    pub(crate) watched: Vec<Watched>,
+    /// Whether one of them was changed since.
+    pub(crate) is_touched: bool,
 }
 
 impl Model for Session {
@@ -26,7 +31,7 @@ impl Model for Session {
 
     ghost Value = { SeenSession };
 
-    ghost view = { λ s. seen_session s.protocol s.name s.mode s.queue };
+    ghost view = { λ s. seen_session s.protocol s.name s.mode s.queue s.watched s.is_touched };
 }
 
 /// When commands are executed.
@@ -58,6 +63,16 @@ impl Session {
             name: Vec::new(alloc),
             mode: Mode::AtOnce,
             queue: Vec::new(alloc),
+            watched: Vec::new(alloc),
+            is_touched: false,
         }
+    }
+
+    /// Watches no key any more.
+    pub(crate) fn unwatch(&mut self)
+        ensures { self.new ≡ record self.old { watched = []; is_touched = false } }
+    {
+        self.watched.clear();
+        self.is_touched = false;
     }
 }

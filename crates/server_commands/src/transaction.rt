@@ -1,18 +1,22 @@
 //! Transactions: `MULTI`, `EXEC`, `DISCARD`, `WATCH`.
-ghost use Rattle.std.specs.Prelude.{◌≡◌, ◌≢◌, ◌<◌, ℕ, length, IfOk, OnErr};
+ghost use Rattle.std.specs.Prelude.{◌≡◌, ◌≢◌, ◌<◌, ℕ, length, true, IfOk, OnErr, Ok};
 ghost use Rattle.std.specs.Global.{Vec};
 ghost use Rattle.server_commands.specs.Commands.{IsNamed, PlainReplies, Replies, least_of};
 ghost use Rattle.server_commands.specs.Server.{IsRefused};
+ghost use Rattle.server_commands.specs.Session.{forgotten};
 ghost use Rattle.server_commands.specs.Streams.{seen_streams};
+ghost use Rattle.server_commands.specs.Watching.{is_touched};
+ghost use Rattle.server_commands.specs.declared.answer.Answer.TheVariants.{NilArray};
 ghost use Rattle.server_commands.specs.declared.commands.Change.{Change};
-ghost use Rattle.server_commands.specs.declared.answer.Reply.TheVariants.{Refused};
+ghost use Rattle.server_commands.specs.declared.answer.Reply.TheVariants.{Done, Refused};
 ghost use Rattle.server_commands.specs.declared.refusal.Refusal.TheVariants.{Memory};
-ghost use Rattle.server_commands.specs.declared.session.Mode.TheVariants.{AtOnce};
+ghost use Rattle.server_commands.specs.declared.session.Mode.TheVariants.{AtOnce, Queued as IsQueued};
 
 use crate::answer::{Answer, Reply, Status};
 use crate::commands::{self, Command, Plain, Step};
 use crate::refusal::Refusal;
 use crate::session::{Mode, Queued, Session};
+use crate::watching::{is_touched, note_all};
 use server_store::Stream;
 use std::alloc::{AllocError, Global};
 use std::mem;
@@ -53,14 +57,7 @@ pub(crate) fn answered(
         → seen_streams streams.new ≡ seen_streams streams.old) }
 {
     match commands::command_in(alloc, &words) {
-        Ok(Command::Transaction(step)) => execute_step(
-            alloc,
-            streams,
-            now,
-            session,
-            step,
-            words.len(),
-        ),
+        Ok(Command::Transaction(step)) => execute_step(alloc, streams, now, session, step, &words),
         Ok(Command::Plain(command)) if session.mode == Mode::AtOnce => {
             execute_now(alloc, streams, now, session, command, words)
         }
@@ -69,7 +66,7 @@ pub(crate) fn answered(
     }
 }
 
-/// Does a command.
+/// Does a command, and notes whether a watched key is changed then.
 fn execute_now(
     alloc: Global,
     streams: &mut Vec<Stream>,
@@ -85,7 +82,10 @@ fn execute_now(
         → seen_streams streams.new ≡ seen_streams streams.old) }
 {
     match commands::run(alloc, streams, now, session, command, words) {
-        Ok(answer) => Ok(Reply::Done(answer)),
+        Ok(answer) => {
+            session.is_touched = is_touched(streams, session);
+            Ok(Reply::Done(answer))
+        }
         Err(refusal) => refused(alloc, refusal),
     }
 }
@@ -129,7 +129,7 @@ fn execute_step(
     now: u64,
     session: &mut Session,
     step: Step,
-    words: usize,
+    words: &[Vec<u8>],
 ) -> Result<Reply, AllocError>
     ensures err { OnErr result (seen_streams streams.new ≡ seen_streams streams.old) }
     ensures session { OnErr result (session.new ≡ session.old) }
@@ -138,10 +138,10 @@ fn execute_step(
 {
     match step {
         Step::Begin => begun(alloc, session),
-        Step::Execute if words > 1 => drop_queue(alloc, session, WRONG_EXECUTE),
+        Step::Execute if words.len() > 1 => drop_queue(alloc, session, WRONG_EXECUTE),
         Step::Execute => ended(alloc, streams, now, session),
         Step::Discard => discard_queue(alloc, session),
-        Step::Watch => check_watch(alloc, session.mode),
+        Step::Watch => watch(alloc, streams, session, words),
     }
 }
 
@@ -156,10 +156,21 @@ fn begun(alloc: Global, session: &mut Session) -> Result<Reply, AllocError>
     Ok(Reply::Done(Answer::Okay))
 }
 
-/// `WATCH key ..`; changes of the keys are not tracked.
-fn check_watch(alloc: Global, mode: Mode) -> Result<Reply, AllocError> {
-    if mode != Mode::AtOnce {
+/// `WATCH key ..`
+fn watch(
+    alloc: Global,
+    streams: &[Stream],
+    session: &mut Session,
+    words: &[Vec<u8>],
+) -> Result<Reply, AllocError>
+    ensures { OnErr result (session.new ≡ session.old) }
+{
+    if session.mode != Mode::AtOnce {
         return refused(alloc, WATCH_INSIDE);
+    }
+    if let [_, keys @ ..] = words {
+        let mut more = note_all(alloc, streams, keys)?;
+        session.watched.append(&mut more)?;
     }
     Ok(Reply::Done(Answer::Okay))
 }
@@ -184,8 +195,11 @@ fn drop_queue(alloc: Global, session: &mut Session, refusal: Refusal) -> Result<
     Ok(reply)
 }
 
-/// Executes commands as they come, from now on.
-fn forget(session: &mut Session) {
+/// Executes commands as they come, from now on, and watches no key.
+fn forget(session: &mut Session)
+    ensures { session.new ≡ forgotten session.old }
+{
+    session.unwatch();
     session.queue.clear();
     session.mode = Mode::AtOnce;
 }
@@ -201,14 +215,21 @@ fn ended(
     ensures session { OnErr result (session.new ≡ session.old) }
     ensures refused { IfOk result (λ r. IsRefused r
         → seen_streams streams.new ≡ seen_streams streams.old) }
+    ensures touched { session.old.mode ≡ IsQueued → is_touched streams.old.items session.old ≡ true
+        → (result ≡ Ok (Done NilArray)) × (session.new ≡ forgotten session.old)
+        × (seen_streams streams.new ≡ seen_streams streams.old) }
 {
     match session.mode {
         Mode::AtOnce => refused(alloc, NOT_BEGUN),
         Mode::Aborted => drop_queue(alloc, session, ABORTED),
+        Mode::Queued if is_touched(streams, session) => {
+            forget(session);
+            Ok(Reply::Done(Answer::NilArray))
+        }
         Mode::Queued => {
             let mut outcomes = fail_for_memory(alloc, session.queue.len())?;
             let queue = mem::replace(&mut session.queue, Vec::new(alloc));
-            session.mode = Mode::AtOnce;
+            forget(session);
             execute(alloc, streams, now, session, queue, &mut outcomes);
             Ok(Reply::Executed(outcomes))
         }

@@ -51,7 +51,10 @@ pub(super) fn answered(
     match asked {
         Connection::Ping => ping(alloc, word, arguments),
         Connection::Hello => hello::hello(alloc, session, arguments),
-        Connection::Unwatch => Ok(Answer::Okay),
+        Connection::Unwatch => {
+            session.unwatch();
+            Ok(Answer::Okay)
+        }
         Connection::Select => select(arguments),
         Connection::Client => client(alloc, session, word, arguments),
     }
