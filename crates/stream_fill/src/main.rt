@@ -175,14 +175,13 @@ fn explain_error(error: FillError, fault: Option<Error>, is_onto: bool) -> Error
             FillError::Round(ConfirmedError::Round(RunError::Request(RequestError::NotRead))),
             Some(fault),
         ) => fault,
-        (
-            FillError::Round(ConfirmedError::Round(RunError::Answer(FeedError::OtherWriter))),
-            _,
-        ) => {
+        (FillError::Round(ConfirmedError::Round(RunError::Answer(FeedError::OtherWriter))), _) => {
             if is_onto {
                 anyhow!("another writer adds to the stream")
             } else {
-                anyhow!("the stream has entries of another writer: --onto adds all lines after them")
+                anyhow!(
+                    "the stream has entries of another writer: --onto adds all lines after them"
+                )
             }
         }
         (error, _) => error.into(),
