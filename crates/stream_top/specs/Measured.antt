@@ -1,8 +1,11 @@
--- When a stream is measured, and which reply says that a key does not exist.
-use Rattle.std.specs.Prelude.{ℕ, ◌+◌, ◌*◌, ◌/◌, ◌^◌, ◌-◌, Bool, false, List, codes, min, string_bytes}
+-- When a stream is measured, which streams are, and which reply says that a key does not exist.
+use Rattle.std.specs.Prelude.{ℕ, ◌+◌, ◌*◌, ◌/◌, ◌^◌, ◌-◌, Bool, false, List, [], ◌∷◌, ◌++◌, codes, fold, min}
+use Rattle.std.specs.Prelude.{if◌then◌else◌, string_bytes}
+use Rattle.std.specs.List.{list_any}
 use Rattle.std.specs.Str.{bytes_eq}
 use Rattle.redis_wire.specs.Reply.{Answer, value, refused, group, pushed}
 use Rattle.stream_top.specs.declared.figures.StreamFigures.{StreamFigures}
+use Rattle.stream_top.specs.declared.options.Key.{Key}
 
 -- the error of a server for a key that does not exist
 abbrev pub is_no_such_key : Answer → Bool
@@ -18,3 +21,19 @@ milliseconds seconds micros = min (min (seconds * 1000) (2 ^ 64 - 1) + micros / 
 -- these are the figures of this key
 abbrev pub is_of : List ℕ → StreamFigures → Bool
 is_of key figures = bytes_eq key (string_bytes figures.key)
+
+-- the key that these figures are of
+abbrev pub key_of : StreamFigures → List ℕ
+key_of figures = string_bytes figures.key
+
+-- the name of a key
+abbrev pub name_of : Key → List ℕ
+name_of key = string_bytes key.name
+
+-- these names, and one more after them if it is not among them
+abbrev pub with_name : List (List ℕ) → List ℕ → List (List ℕ)
+with_name names name = if list_any (bytes_eq name) names then names else names ++ name ∷ []
+
+-- each of these names once, in order
+abbrev pub each_once : List (List ℕ) → List (List ℕ)
+each_once names = fold with_name [] names

@@ -15,10 +15,10 @@
 //! it or, with status 1, only the reason. For a wrong argument it ends with 2. `--help` lists its arguments.
 #![tactic(auto)]
 
-ghost use Rattle.std.specs.Prelude.{◌≡◌, string_bytes, IfOk};
+ghost use Rattle.std.specs.Prelude.{◌≡◌, map, string_bytes, IfOk};
 ghost use Rattle.std.specs.List.{list_any};
 ghost use Rattle.redis_wire.specs.Reply.{answer};
-ghost use Rattle.stream_top.specs.Measured.{is_no_such_key, is_of, milliseconds};
+ghost use Rattle.stream_top.specs.Measured.{each_once, is_no_such_key, is_of, key_of, milliseconds, name_of};
 
 mod figures;
 mod json_text;
@@ -159,7 +159,9 @@ fn measure<R: Read + Drop, W: Write + Drop>(
     alloc: Global,
     connection: &mut Connection<R, W>,
     keys: &[Key],
-) -> Result<Vec<StreamFigures>> {
+) -> Result<Vec<StreamFigures>>
+    ensures { IfOk result (λ streams. map key_of streams.items ≡ each_once (map name_of keys.now)) }
+{
     let mut streams = Vec::new(alloc);
     for key in keys {
         if !is_measured(&streams, &key.name) {
