@@ -34,6 +34,6 @@ loop-key-preserved g c =
     one_step c.args.keys.now c.loop-key.key-index c.key-item.result c.loop-key.streams.items
     c.if-not-is_measured.streams.items (omega arith) c.key-item.is c.loop-key.invariant
     (elim c.if-not-is_measured.branch [
-      then-not-is_measured+in_ok-measure_one+in_ok-push w ↦ grind (arith, common_steps)
+      | then-not-is_measured+in_ok-measure_one+in_ok-push w ↦ grind (arith, common_steps)
       | else-not-is_measured w ↦ grind (arith, common_steps)
     ])
