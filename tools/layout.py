@@ -14,7 +14,7 @@ import time as clock
 from concurrent.futures import ThreadPoolExecutor
 from typing import Callable, Dict, Iterator, List, NamedTuple, Sequence, TypeVar
 
-from shared import ROOT, content
+from shared import ROOT, content, crates_below
 from unproved import KIT, words_of_sources
 import man_pages
 from jagyerti.cli import completions, make_parser
@@ -160,16 +160,6 @@ def describe_build(is_proved: bool) -> Build:
     except NotMade:
         commit, time, changed = "", "0", False
     return Build(version if is_proved else f"{version}+unproved", is_proved, commit, changed, int(time))
-
-
-def crates_below(crate: str) -> List[str]:
-    """Returns the crate and all crates of the repository that it needs."""
-    lines = [line.partition("#")[0].partition(":") for line in read("crates.txt").decode().splitlines()]
-    uses = {names.split()[0]: below.split() for names, _, below in lines if names.strip()}
-    found = [crate]
-    for each in found:
-        found += [it for it in uses.get(each, []) if it in uses and it not in found]
-    return found
 
 
 def newest_source(crate: str) -> str:
@@ -330,7 +320,7 @@ def units(prefix: str) -> Tree:
 
 def describe_proofs(build: Build, tree: Tree) -> str:
     """Returns the text of PROVED.txt: what was proved, by what, and the sum of each file."""
-    crates = sorted({crate for name in (*PROGRAMS, LIBRARY) for crate in crates_below(name)})
+    crates = sorted(crates_below(*PROGRAMS, LIBRARY))
     lines = [f"jagyerti {build.version} ({build.text})", "", f"commit  {build.commit or 'none'}", f"kit     {kit_version()}", ""]
     if build.is_proved:
         lines += ["Proved, and then built: " + ", ".join(PROGRAMS) + f", lib{LIBRARY}; and these crates below them:",

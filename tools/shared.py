@@ -129,6 +129,20 @@ def write(path: str, data: Union[str, bytes], mode: int = 0) -> str:
     return path
 
 
+def crates() -> Dict[str, List[str]]:
+    """The crates of crates.txt, in its order, each with those that it uses."""
+    lines = [line.partition("#")[0].partition(":") for line in text_of("crates.txt").splitlines()]
+    return {names.split()[0]: below.split() for names, _, below in lines if names.strip()}
+
+
+def crates_below(*names: str) -> List[str]:
+    """These crates, and all crates of the repository that they need."""
+    uses, found = crates(), list(names)
+    for each in found:
+        found += [it for it in uses.get(each, []) if it in uses and it not in found]
+    return found
+
+
 # Clocks and tables.
 
 
