@@ -49,7 +49,7 @@ module _ (c : Claimer) (dead : List ℕ) (form : Form) (name : Name) (which : �
             let t : System = moves form s (Posts name (which k) e) in
             let now : IsDesk dead d (t.desks name) =
             subst (λ x. IsDesk dead x (t.desks name)) (sym one.waits)
-            (posts_are_moves form s name (which k) dead desk e w.deliveries is) in
+            (posts_are_moves form s name (which k) dead desk e w.deliveries w.reason.items is) in
             subst (λ xs. IsDesk dead desk' ((run form (posting name which k xs) s).desks name)) (sym q.2)
             (posted ws q.1 m new d desk' q.4 t (suc k) now))
         | inr q ↦ posted ws es m new d desk' q.1 s k (subst (λ x. IsDesk dead x (s.desks name)) (sym q.0.waits) is)
@@ -132,7 +132,7 @@ none_posted c dead (w ∷ ws) es old new desk desk' p h =
       | inl q ↦
           (let one : PostedOne dead w p.2 q.0 desk p.1 = q.3 in
           none_posted c dead ws q.1 p.0 new p.1 desk' q.4 (subst NoneAdded (sym one.waits)
-          (λ none. absurd (not_none desk.waiting (q.0.0, letter_for dead q.0 w.deliveries) none))))
+          (λ none. absurd (not_none desk.waiting (q.0.0, letter_for dead q.0 w.deliveries w.reason.items) none))))
       | inr q ↦ none_posted c dead ws es p.0 new p.1 desk' q.1 (subst NoneAdded (sym q.0.waits) h)
     ]
 

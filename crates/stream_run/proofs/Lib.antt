@@ -1,2 +1,3 @@
 -- Lemmas.
 mod RoundsLemmas
+mod GivenUpLemmas

@@ -6,7 +6,7 @@ use Rattle.worker_jobs.specs.Acknowledged.{Reaches, deleted_told}
 use Rattle.worker_jobs.specs.Acknowledged as jobs
 use Rattle.worker_jobs.specs.Talk.{Talk, committed, talked}
 use Rattle.worker.specs.DeadLetters.Besides.{Besides, BreaksBesides}
-use Rattle.stream_run.specs.Rounds.{Breaks, Rounds, RoundsAreReached, Stops, besides, ends, turns}
+use Rattle.stream_run.specs.Rounds.{Adds, Breaks, BreaksAdding, Rounds, RoundsAreReached, Stops, adds, besides, ends, turns}
 use Rattle.worker.specs.Pipelined.{FailsPipelined, WentPipelined}
 use Rattle.worker.specs.Session.{Standing, Turned}
 use Rattle.worker.specs.declared.error.RunError.{RunError}
@@ -21,6 +21,7 @@ pub rounds_both : (settings : Settings) (l m n : Link) (w x y : Standing Talk) �
 rounds_both settings l m n w x y a (ends k v) = a
 rounds_both settings l m n w x y a (besides k i j v u p b) =
     besides l i j w u (rounds_both settings l k i w v u a p) b
+rounds_both settings l m n w x y a (adds k i j v u p b) = adds l i j w u (rounds_both settings l k i w v u a p) b
 rounds_both settings l m n w x y a (turns k i j v u z q r p t) =
     turns l i j w u z q r (rounds_both settings l k i w v u a p) t
 
@@ -42,7 +43,14 @@ pub rounds_besides : (settings : Settings) (l n : Link) (w : Standing Talk) → 
 rounds_besides settings l n w b = besides l l n w w (ends l w) b
 
 pub stops_besides : (settings : Settings) (l n : Link) (w : Standing Talk) → BreaksBesides l n → Stops settings l n w w
-stops_besides settings l n w b = record { between = l; before = w; rounds = ends l w; breaks = inr (inl (refl, b)) }
+stops_besides settings l n w b = record { between = l; before = w; rounds = ends l w; breaks = inr (inl (refl, inl b)) }
+
+-- entries were added
+pub rounds_adds : (settings : Settings) (l n : Link) (w : Standing Talk) → Adds l n → Rounds settings l w n w
+rounds_adds settings l n w b = adds l l n w w (ends l w) b
+
+pub stops_adding : (settings : Settings) (l n : Link) (w : Standing Talk) → BreaksAdding l n → Stops settings l n w w
+stops_adding settings l n w b = record { between = l; before = w; rounds = ends l w; breaks = inr (inl (refl, inr b)) }
 
 -- one round, or two with one write
 pub one_round : (settings : Settings) (l n : Link) (w y : Standing Talk) (q : Asked) (p : Progress)
@@ -67,6 +75,8 @@ reached : (settings : Settings) (stream sent coming : List ℕ) (l n : Link) (w 
     → (more : List Id) × Reaches settings stream sent coming y more
 reached settings stream sent coming l n w y deleted r (ends k v) = (deleted, r)
 reached settings stream sent coming l n w y deleted r (besides k i j v u p b) =
+    reached settings stream sent coming k i v u deleted r p
+reached settings stream sent coming l n w y deleted r (adds k i j v u p b) =
     reached settings stream sent coming k i v u deleted r p
 reached settings stream sent coming l n w y deleted r (turns k i j v u z q a p t) =
     let before = reached settings stream sent coming k i v u deleted r p in

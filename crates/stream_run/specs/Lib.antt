@@ -3,3 +3,4 @@ pub mod Report
 pub mod Options
 pub mod Failures
 pub mod Rounds
+pub mod GivenUp

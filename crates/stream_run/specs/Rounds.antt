@@ -5,6 +5,7 @@ use Rattle.model_server.specs.Group.Worker.{Id}
 use Rattle.worker_jobs.specs.Acknowledged.{Reaches}
 use Rattle.worker_jobs.specs.Talk.{Talk, committed, talked}
 use Rattle.worker.specs.DeadLetters.Besides.{Besides, BreaksBesides}
+use Rattle.worker.specs.Outbox.Sent.{SendsAll, SendsSome}
 use Rattle.worker.specs.Pipelined.{FailsPipelined}
 use Rattle.worker.specs.Session.{Standing, Turned}
 use Rattle.worker.specs.declared.error.RunError.{RunError}
@@ -12,17 +13,26 @@ use Rattle.worker.specs.declared.state.Asked.{Asked}
 use Rattle.worker.specs.declared.state.Settings.{Settings}
 use Rattle.worker.specs.declared.worker.Progress.{Progress}
 
+-- commands for entries that replies add were sent, and the server replied to each; or there were none
+abbrev pub Adds : Link → Link → Type 0
+Adds old new = (new ≡ old) ⊎ ((commands : List (List ℕ)) × SendsAll commands old new)
+
+-- they were not all sent, or the server did not reply to each
+abbrev pub BreaksAdding : Link → Link → Type 0
+BreaksAdding old new = (commands : List (List ℕ)) × (left : List (List ℕ)) × SendsSome commands left old new
+
 module _ (settings : Settings) where
-  -- rounds over a connection, one after the other, and other commands between them
+  -- rounds over a connection, one after the other, and other commands and added entries between them
   pub data Rounds : Link → Standing Talk → Link → Standing Talk → Type 0 where
     ends : (l : Link) (w : Standing Talk) → Rounds l w l w
     besides : (l m n : Link) (w x : Standing Talk) → Rounds l w m x → Besides m n → Rounds l w n x
+    adds : (l m n : Link) (w x : Standing Talk) → Rounds l w m x → Adds m n → Rounds l w n x
     turns : (l m n : Link) (w x y : Standing Talk) (q : Asked) (p : Progress) → Rounds l w m x
         → Turned talked committed settings m n x y q p → Rounds l w n y
 
   -- nothing more was sent, or another command failed, or a round did
   abbrev pub Breaks : Link → Link → Standing Talk → Standing Talk → Type 0
-  Breaks old new w x = ((old ≡ new) × (w ≡ x)) ⊎ (((w ≡ x) × BreaksBesides old new)
+  Breaks old new w x = ((old ≡ new) × (w ≡ x)) ⊎ (((w ≡ x) × (BreaksBesides old new ⊎ BreaksAdding old new))
       ⊎ ((e : RunError) × FailsPipelined talked committed settings old new w x e))
 
   -- such rounds, and then an end

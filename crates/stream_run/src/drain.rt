@@ -1,7 +1,8 @@
 //! The loop of the program: it sends commands and takes the replies.
-ghost use Rattle.std.specs.Prelude.{◌≡◌, ◌⊎◌, IfOk, IsTrue, None, OnErr, OnOk, false};
-ghost use Rattle.worker.specs.DeadLetters.Besides.{Besides, BreaksBesides};
-ghost use Rattle.stream_run.specs.Rounds.{Rounds, Stops};
+ghost use Rattle.std.specs.Prelude.{◌≡◌, ◌⊎◌, IfOk, IsTrue, None, OnErr, OnOk, false, string_bytes};
+ghost use Rattle.worker.specs.DeadLetters.Besides.{Besides, BreaksBesides, GivesUpNow};
+ghost use Rattle.stream_run.specs.GivenUp.{GivesUpDead, GivesUpEach, dead_of, names_of_search};
+ghost use Rattle.stream_run.specs.Rounds.{Adds, BreaksAdding, Rounds, Stops};
 ghost use Rattle.worker.specs.Session.{standing_of};
 
 use crate::failure::Failure;
@@ -61,8 +62,9 @@ pub fn drain<
     Err(anyhow!("the last turn came").into())
 }
 
-/// Searches for entries to give up, makes a round, or two in one write, shows the texts of the child and counts.
-/// Returns the command that was sent last.
+/// Searches for entries to give up, makes a round, or two in one write, and sends the entries that the replies add. Then
+/// it shows the texts of the child, gives up the entries whose reply is `dead`, and counts. Returns the command that was
+/// sent last.
 fn turn<
     R: Read + Drop,
     W: Write + Drop,
@@ -94,8 +96,10 @@ fn turn<
         asked,
     )?;
     let made = round(rt.alloc(), connection, worker, jobs, dead.is_none())?;
+    send_added(rt.alloc(), connection, jobs)?;
     let notes = jobs.take_notes(rt.alloc());
     show_notes(rt, &notes)?;
+    give_up_dead(rt.alloc(), connection, dead, &notes)?;
     if made.acknowledged || made.round.asked == Asked::Acknowledgement {
         report.count(jobs.committed);
     }
@@ -117,6 +121,74 @@ fn look<R: Read + Drop, W: Write + Drop>(
         return Ok(());
     };
     match dead.turn(alloc, connection, asked, in_hand) {
+        Ok(()) => Ok(()),
+        Err(error) => Err(Failure::Search(error)),
+    }
+}
+
+/// Sends the entries that the replies add. Before the server has replied to each, nothing of the batch is acknowledged.
+fn send_added<R: Read + Drop, W: Write + Drop, C: SteadyRead + Drop, D: SteadyWrite + Drop>(
+    alloc: Global,
+    connection: &mut Connection<R, W>,
+    jobs: &mut Jobs<C, D>,
+) -> Result<(), Failure>
+    ensures ok { OnOk result (Adds connection.old connection.new) }
+    ensures err { OnErr result (BreaksAdding connection.old connection.new) }
+    ensures kept { jobs.new ≡ record jobs.old { outbox = jobs.new.outbox } }
+{
+    match jobs.send_added(alloc, connection) {
+        Ok(()) => Ok(()),
+        Err(error) => Err(Failure::Outbox(error)),
+    }
+}
+
+/// Gives up each entry whose reply is `dead`, if there is a stream of dead letters, with the text of the reply.
+fn give_up_dead<R: Read + Drop, W: Write + Drop>(
+    alloc: Global,
+    connection: &mut Connection<R, W>,
+    dead: &mut Option<DeadLetterSearch>,
+    notes: &[Note],
+) -> Result<(), Failure>
+    ensures ok { OnOk result (GivesUpDead (dead_of dead.old) notes.now connection.old connection.new) }
+    ensures err { OnErr result (BreaksBesides connection.old connection.new) }
+{
+    match dead {
+        Some(search) => give_up_each(alloc, connection, search, notes),
+        None => Ok(()),
+    }
+}
+
+/// Gives up each entry whose reply is `dead`, in order.
+fn give_up_each<R: Read + Drop, W: Write + Drop>(
+    alloc: Global,
+    connection: &mut Connection<R, W>,
+    search: &mut DeadLetterSearch,
+    notes: &[Note],
+) -> Result<(), Failure>
+    ensures ok { OnOk result (GivesUpEach (names_of_search search.old) notes.now connection.old connection.new) }
+    ensures err { OnErr result (BreaksBesides connection.old connection.new) }
+{
+    for note in notes {
+        if note.dead {
+            give_up(alloc, connection, search, note)?;
+        }
+    }
+    Ok(())
+}
+
+/// Gives up the entry of a note, with its text.
+fn give_up<R: Read + Drop, W: Write + Drop>(
+    alloc: Global,
+    connection: &mut Connection<R, W>,
+    search: &mut DeadLetterSearch,
+    note: &Note,
+) -> Result<(), Failure>
+    ensures ok { OnOk result (GivesUpNow (names_of_search search.old).0 (names_of_search search.old).1
+        (string_bytes note.now.id) note.now.text.items connection.old connection.new) }
+    ensures err { OnErr result (BreaksBesides connection.old connection.new) }
+    ensures names { names_of_search search.new ≡ names_of_search search.old }
+{
+    match search.give_up_now(alloc, connection, note.id.as_str(), &note.text) {
         Ok(()) => Ok(()),
         Err(error) => Err(Failure::Search(error)),
     }
@@ -237,9 +309,12 @@ fn convert_run_error(error: RunError) -> Failure {
     }
 }
 
-/// Shows each text, with its entry.
+/// Shows each text that is not empty, with its entry.
 fn show_notes<T: Eprint + AllocGlobal>(rt: &T, notes: &[Note]) -> Result<(), Error> {
     for note in notes {
+        if note.text.is_empty() {
+            continue;
+        }
         let text = mask_bytes(rt.alloc(), &note.text)?;
         let id = mask_bytes(rt.alloc(), note.id.as_bytes())?;
         let word = if note.dead { "dead" } else { "later" };

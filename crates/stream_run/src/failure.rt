@@ -5,6 +5,7 @@ use std::io;
 use thiserror::Error as AnError;
 use worker::RunError;
 use worker::dead_letters::SearchError;
+use worker::outbox::OutboxError;
 
 /// Why the program failed.
 #[derive(Debug, Drop, AnError)]
@@ -21,6 +22,9 @@ pub enum Failure {
     /// The search for dead letters broke off.
     #[error("{0}")]
     Search(SearchError),
+    /// An entry that a reply adds was not added.
+    #[error("cannot add an entry: {0}")]
+    Outbox(OutboxError),
     /// Standard error failed, memory ran out, or the program could not start.
     #[error("{0}")]
     Other(Error),

@@ -7,10 +7,12 @@
 //!
 //! - `done`: the entry is acknowledged, with the others of its batch;
 //! - `later` or `later TEXT`: it stays pending, and is claimed again after the idle time;
-//! - `dead TEXT`: the same, and the text is shown on standard error;
-//! - `stop`: it stays pending, and the program ends with status 0.
+//! - `dead TEXT`: with `--dead` it is given up at once, and its dead letter has the text; else as `later`;
+//! - `stop`: it stays pending, and the program ends with status 0;
+//! - `{"done":true,"add":[["results",{"id":"7"}]]}`: it is done, and entries are added to other streams before it is
+//!   acknowledged.
 //!
-//! An entry without the reply `done` is not acknowledged. At the end it prints its counts on standard error. The exit
+//! An entry without the reply `done` is acknowledged only if it is given up. At the end it prints its counts on standard error. The exit
 //! status is 0 if the child replied `stop`, or if `--until-empty` is given and a read returned nothing new. It is 2 if
 //! an argument is wrong, 4 if the child sends no valid reply, and else 1 with the reason. `--help` prints its
 //! arguments.

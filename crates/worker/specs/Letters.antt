@@ -1,5 +1,5 @@
 -- Entries that are given up, and their letters in a stream of dead letters.
-use Rattle.std.specs.Prelude.{◌≡◌, ◌≢◌, ℕ, Bool, true, false, List, [], ◌∷◌, drop, map, flat_map, codes, decimal}
+use Rattle.std.specs.Prelude.{◌≡◌, ◌≢◌, ℕ, Bool, true, false, List, [], ◌∷◌, ◌++◌, drop, map, flat_map, codes, decimal}
 use Rattle.std.specs.Prelude.{string_bytes}
 use Rattle.redis_resp.specs.Tree.{Tree, bulk, int}
 use Rattle.redis_wire.specs.Packed.{command_bytes}
@@ -29,10 +29,16 @@ desk_of d = record { waiting = map letter_of d.letters.items; added = d.added }
 abbrev pub names_of : DeadLetters → List ℕ × List ℕ × List ℕ
 names_of d = (string_bytes d.key, string_bytes d.group, string_bytes d.dead)
 
--- `XADD dead * entry id deliveries n field value ..`
-abbrev pub letter_sentence : List ℕ → Id → ℕ → List (List ℕ) → List (List ℕ)
-letter_sentence dead id n fields =
-    codes "XADD" ∷ dead ∷ codes "*" ∷ codes "entry" ∷ id ∷ codes "deliveries" ∷ decimal n ∷ fields
+-- the field of a reason, which a letter without one does not have
+abbrev pub reason_words : List ℕ → List (List ℕ)
+reason_words [] = []
+reason_words (b ∷ text) = codes "reason" ∷ (b ∷ text) ∷ []
+
+-- `XADD dead * entry id deliveries n field value ..`, with `reason text` before `entry` if there is a reason
+abbrev pub letter_sentence : List ℕ → List ℕ → Id → ℕ → List (List ℕ) → List (List ℕ)
+letter_sentence dead reason id n fields =
+    codes "XADD" ∷ dead ∷ codes "*"
+    ∷ (reason_words reason ++ codes "entry" ∷ id ∷ codes "deliveries" ∷ decimal n ∷ fields)
 
 -- a stream, its group, and the stream of dead letters
 abbrev pub Names : Type 0
@@ -50,9 +56,9 @@ Entry = Id × Fields
 abbrev pub words_of : Fields → List (List ℕ)
 words_of fields = flat_map (λ f. f.0 ∷ f.1 ∷ []) fields
 
--- the bytes of the XADD of an entry's letter, if it was delivered this often
-abbrev pub letter_for : List ℕ → Entry → ℕ → List ℕ
-letter_for dead e deliveries = command_bytes (letter_sentence dead e.0 deliveries (words_of e.1))
+-- the bytes of the XADD of an entry's letter, if it was delivered this often, and given up for this reason
+abbrev pub letter_for : List ℕ → Entry → ℕ → List ℕ → List ℕ
+letter_for dead e deliveries reason = command_bytes (letter_sentence dead reason e.0 deliveries (words_of e.1))
 
 -- the command for the first entry: its letter is added, and after that it is acknowledged
 abbrev pub of_first : List ℕ × List ℕ × List ℕ → Id × List ℕ → Bool → List ℕ

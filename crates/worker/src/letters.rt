@@ -79,7 +79,6 @@ impl DeadLetters {
 
     /// Gives up an entry with this id, delivery count and fields. It queues `XADD dead * entry id deliveries n field
     /// value ..`. An `Err` changes nothing.
-    #[tactic(auto, using(crate::proofs::LetterLemmas::posted))]
     pub fn give_up<F: ToFieldArgs>(
         &mut self,
         alloc: Global,
@@ -92,14 +91,40 @@ impl DeadLetters {
               = (desk_of self.old).waiting ++ (
                 id.now,
                 command_bytes (letter_sentence
-                    (string_bytes self.old.dead) id.now deliveries (F.args fields.now)),
+                    (string_bytes self.old.dead) [] id.now deliveries (F.args fields.now)),
               ) ∷ [];
         }) }
         ensures err { OnErr result (desk_of self.new ≡ desk_of self.old) }
         ensures names { names_of self.new ≡ names_of self.old }
         ensures asked { self.new.asked ≡ self.old.asked }
     {
-        let command = build_letter(alloc, self.dead.as_str(), id, deliveries, fields)?;
+        self.give_up_for(alloc, b"", id, deliveries, fields)
+    }
+
+    /// As `give_up`, and the letter begins with the reason, `XADD dead * reason text entry id deliveries n field
+    /// value ..`. If the reason is empty, the letter has none. An `Err` changes nothing.
+    #[tactic(auto, using(crate::proofs::LetterLemmas::posted))]
+    pub fn give_up_for<F: ToFieldArgs>(
+        &mut self,
+        alloc: Global,
+        reason: &[u8],
+        id: &str,
+        deliveries: usize,
+        fields: &F,
+    ) -> Result<(), WriteError>
+        ensures ok { OnOk result (desk_of self.new ≡ record (desk_of self.old) {
+          waiting
+              = (desk_of self.old).waiting ++ (
+                id.now,
+                command_bytes (letter_sentence
+                    (string_bytes self.old.dead) reason.now id.now deliveries (F.args fields.now)),
+              ) ∷ [];
+        }) }
+        ensures err { OnErr result (desk_of self.new ≡ desk_of self.old) }
+        ensures names { names_of self.new ≡ names_of self.old }
+        ensures asked { self.new.asked ≡ self.old.asked }
+    {
+        let command = build_letter(alloc, self.dead.as_str(), reason, id, deliveries, fields)?;
         let id = String::from_str(alloc, id)?;
         self.letters.push(Letter { id, command })?;
         Ok(())
@@ -167,19 +192,26 @@ impl DeadLetters {
     }
 }
 
-/// `XADD dead * entry id deliveries n field value ..`, as bytes.
+/// `XADD dead * entry id deliveries n field value ..`, as bytes, with `reason text` before `entry` if the reason is not
+/// empty.
 fn build_letter<F: ToFieldArgs>(
     alloc: Global,
     dead: &str,
+    reason: &[u8],
     id: &str,
     deliveries: usize,
     fields: &F,
 ) -> Result<Vec<u8>, WriteError>
     ensures { IfOk result (λ bytes. bytes.items
-        ≡ command_bytes (letter_sentence dead.now id.now deliveries (F.args fields.now))) }
+        ≡ command_bytes (letter_sentence dead.now reason.now id.now deliveries (F.args fields.now))) }
 {
     let mut bytes = Vec::new(alloc);
     let about = ("entry", id, "deliveries", deliveries);
-    append_command(alloc, &mut bytes, &("XADD", dead, ("*", about), fields))?;
+    if reason.is_empty() {
+        append_command(alloc, &mut bytes, &("XADD", dead, ("*", about), fields))?;
+    } else {
+        let why = ("*", "reason", reason);
+        append_command(alloc, &mut bytes, &("XADD", dead, (why, about), fields))?;
+    }
     Ok(bytes)
 }

@@ -2,6 +2,8 @@
 pub mod LineOf
 pub mod VerdictOf
 pub mod Lines
+pub mod Added
+pub mod Noted
 pub mod Steady
 pub mod Talk
 pub mod Tell

@@ -1,15 +1,20 @@
 //! A handler that passes entries to a child process.
-ghost use Rattle.std.specs.Prelude.{◌≡◌, ◌∷◌, [], ◌++◌, IfOk, OnOk, Some, string_bytes, true, false};
+ghost use Rattle.std.specs.Prelude.{◌≡◌, ◌⊎◌, ◌∷◌, [], ◌++◌, IfOk, OnErr, OnOk, Some, string_bytes, true, false};
 ghost use Rattle.worker_jobs.specs.Talk.{Exchanges, Talk, committed, talk_of, talked};
-ghost use Rattle.worker_jobs.specs.VerdictOf.{verdict_of as verdict_of_line};
+ghost use Rattle.worker_jobs.specs.Noted.{IsNoted, IsNotedFor};
+ghost use Rattle.worker_jobs.specs.VerdictOf.{commands_of_line, text_of, verdict_of as verdict_of_line};
 ghost use Rattle.worker.specs.Handling.{pair_of, verdict_of};
+ghost use Rattle.worker.specs.Outbox.Sent.{SendsAll, SendsSome, unsent_of};
 
 use crate::fault::Fault;
 use crate::line::entry_line;
 use crate::pipes::{SteadyRead, SteadyWrite, read_line, write_line};
-use crate::reply::{Reply, reply_in, text_in};
+use crate::reply::{Reply, take_reply, text_in};
+use redis_connection::Connection;
 use std::alloc::Global;
+use std::io::{Read, Write};
 use std::mem;
+use worker::outbox::{Outbox, OutboxError};
 use worker::{EntryRef, Handler, NotCommitted, Verdict};
 
 /// A child's reply to an entry that stays pending.
@@ -44,6 +49,8 @@ pub struct Jobs<R: SteadyRead + Drop, W: SteadyWrite + Drop> {
     /// The id of the entry at which it stopped, if there was memory to keep it.
     pub undone: Option<String>,
     notes: Vec<Note>,
+    /// The commands for the entries that replies add, without a reply of the server.
+    outbox: Outbox,
 }
 
 impl<R: SteadyRead + Drop, W: SteadyWrite + Drop> Jobs<R, W> {
@@ -52,7 +59,7 @@ impl<R: SteadyRead + Drop, W: SteadyWrite + Drop> Jobs<R, W> {
         ensures ends { (result.replies ≡ replies) × (result.lines ≡ lines) }
         ensures stream { result.stream ≡ stream }
         ensures begins { (result.over ≡ false) × (result.seen ≡ 0) × (result.done ≡ 0) × (result.committed ≡ 0)
-            × (result.left ≡ 0) × (result.notes.items ≡ []) }
+            × (result.left ≡ 0) × (result.notes.items ≡ []) × (unsent_of result.outbox ≡ []) }
     {
         Jobs {
             stream,
@@ -67,6 +74,7 @@ impl<R: SteadyRead + Drop, W: SteadyWrite + Drop> Jobs<R, W> {
             fault: None,
             undone: None,
             notes: Vec::new(alloc),
+            outbox: Outbox::new(alloc),
         }
     }
 
@@ -93,6 +101,26 @@ impl<R: SteadyRead + Drop, W: SteadyWrite + Drop> Jobs<R, W> {
         mem::replace(&mut self.notes, Vec::new(alloc))
     }
 
+    /// Sends the commands for the entries that replies add, and takes the server's reply to each. Does nothing if there
+    /// are none. After an `Err` those without a reply stay queued, and `commit` fails.
+    pub fn send_added<I: Read + Drop, O: Write + Drop>(
+        &mut self,
+        alloc: Global,
+        connection: &mut Connection<I, O>,
+    ) -> Result<(), OutboxError>
+        ensures sent { OnOk result (unsent_of self.new.outbox ≡ []) }
+        ensures ok { OnOk result (((unsent_of self.old.outbox ≡ []) × (connection.new ≡ connection.old))
+            ⊎ SendsAll (unsent_of self.old.outbox) connection.old connection.new) }
+        ensures err { OnErr result (SendsSome (unsent_of self.old.outbox) (unsent_of self.new.outbox)
+            connection.old connection.new) }
+        ensures kept { self.new ≡ record self.old { outbox = self.new.outbox } }
+    {
+        if self.outbox.is_empty() {
+            return Ok(());
+        }
+        self.outbox.send(alloc, connection)
+    }
+
     /// Writes the line of an entry, reads the next line, and returns its reply. A line that was received before is an
     /// error: it would be taken for the reply to this entry.
     fn exchange(&mut self, alloc: Global, entry: &EntryRef<'_>) -> Result<Reply, Fault>
@@ -103,6 +131,10 @@ impl<R: SteadyRead + Drop, W: SteadyWrite + Drop> Jobs<R, W> {
             (R.remaining self.old.replies) (R.remaining self.new.replies) self.new.reply.items) }
         ensures says { IfOk result (λ reply. verdict_of_line self.new.reply.items ≡ Some reply) }
         ensures asked { OnOk result (R.ahead self.old.replies ≡ []) }
+        ensures added { OnOk result (unsent_of self.new.outbox
+            ≡ unsent_of self.old.outbox ++ commands_of_line self.new.reply.items) }
+        ensures not_added { OnErr result (unsent_of self.new.outbox ≡ unsent_of self.old.outbox) }
+        ensures notes { self.new.notes ≡ self.old.notes }
     {
         if self.replies.holds_more() {
             return Err(Fault::Unasked);
@@ -110,7 +142,7 @@ impl<R: SteadyRead + Drop, W: SteadyWrite + Drop> Jobs<R, W> {
         let mut line = entry_line(alloc, &self.stream, entry)?;
         write_line(&mut self.lines, &mut line)?;
         read_line(&mut self.replies, &mut self.reply)?;
-        match reply_in(&self.reply) {
+        match take_reply(alloc, &self.reply, &mut self.outbox)? {
             Some(reply) => Ok(reply),
             None => Err(Fault::Unknown),
         }
@@ -124,6 +156,11 @@ impl<R: SteadyRead + Drop, W: SteadyWrite + Drop> Jobs<R, W> {
             (W.contents self.old.lines) (W.contents self.new.lines)
             (R.remaining self.old.replies) (R.remaining self.new.replies) self.new.reply.items) }
         ensures says { IfOk result (λ reply. verdict_of_line self.new.reply.items ≡ Some reply) }
+        ensures added { OnOk result (unsent_of self.new.outbox
+            ≡ unsent_of self.old.outbox ++ commands_of_line self.new.reply.items) }
+        ensures not_added { OnErr result (unsent_of self.new.outbox ≡ unsent_of self.old.outbox) }
+        ensures noted { IfOk result (λ reply. IsNotedFor reply (pair_of entry.now).0
+            (text_of self.new.reply.items) self.old.notes.items self.new.notes.items) }
     {
         let reply = self.exchange(alloc, entry)?;
         match reply {
@@ -134,12 +171,14 @@ impl<R: SteadyRead + Drop, W: SteadyWrite + Drop> Jobs<R, W> {
         Ok(reply)
     }
 
-    /// Keeps the text of a reply, if it has one.
+    /// Keeps the text of a reply, if it has one, and the id of an entry that is to be given up.
     fn keep_note(&mut self, alloc: Global, id: &str, dead: bool) -> Result<(), Fault>
         ensures kept { self.new ≡ record self.old { notes = self.new.notes } }
+        ensures noted { OnOk result (IsNoted id.now dead (text_of self.old.reply.items)
+            self.old.notes.items self.new.notes.items) }
     {
         let text = text_in(&self.reply);
-        if text.is_empty() {
+        if text.is_empty() && !dead {
             return Ok(());
         }
         let note = Note {
@@ -155,6 +194,7 @@ impl<R: SteadyRead + Drop, W: SteadyWrite + Drop> Jobs<R, W> {
     fn stop(&mut self, alloc: Global, id: &str, fault: Option<Fault>) -> Verdict
         ensures verdict { result ≡ Verdict.Stop }
         ensures over { self.new.over ≡ true }
+        ensures outbox { self.new.outbox ≡ self.old.outbox }
     {
         self.over = true;
         self.fault = fault;
@@ -172,9 +212,15 @@ impl<R: SteadyRead + Drop, W: SteadyWrite + Drop> Handler for Jobs<R, W> {
 
     ghost history = { λ j. talk_of j.over (string_bytes j.stream) (W.contents j.lines) (R.remaining j.replies) };
 
-    /// Sends the entry to the child; it is done if the reply is `done`. After `stop`, and after a fault, it stops, and
-    /// sends no other one.
-    fn handle(&mut self, alloc: Global, entry: &EntryRef<'_>) -> Verdict {
+    /// Sends the entry to the child; it is done if the reply is `done`, or one of JSON. After `stop`, and after a fault,
+    /// it stops, and sends no other one.
+    fn handle(&mut self, alloc: Global, entry: &EntryRef<'_>) -> Verdict
+        ensures history { ⟦<Jobs<R, W> as Handler>⟧.history self.new
+            ≡ talked (⟦<Jobs<R, W> as Handler>⟧.history self.old) (pair_of entry.now) (verdict_of result) }
+        ensures added { result ≡ Verdict.Done → unsent_of self.new.outbox
+            ≡ unsent_of self.old.outbox ++ commands_of_line self.new.reply.items }
+        ensures not_added { result ≡ Verdict.Stop → unsent_of self.new.outbox ≡ unsent_of self.old.outbox }
+    {
         self.seen = self.seen.saturating_add(1);
         if self.over {
             return Verdict::Stop;
@@ -197,8 +243,18 @@ impl<R: SteadyRead + Drop, W: SteadyWrite + Drop> Handler for Jobs<R, W> {
         }
     }
 
-    /// Does nothing, since the replies of a batch were received before.
-    fn commit(&mut self, _alloc: Global) -> Result<(), NotCommitted> {
+    /// Does nothing, since the replies of a batch were received before. It fails while the server has not replied to a
+    /// command for an entry that a reply adds.
+    fn commit(&mut self, _alloc: Global) -> Result<(), NotCommitted>
+        ensures history { OnOk result (⟦<Jobs<R, W> as Handler>⟧.history self.new
+            ≡ committed (⟦<Jobs<R, W> as Handler>⟧.history self.old)) }
+        ensures history_kept { OnErr result (⟦<Jobs<R, W> as Handler>⟧.history self.new
+            ≡ ⟦<Jobs<R, W> as Handler>⟧.history self.old) }
+        ensures sent { OnOk result (unsent_of self.old.outbox ≡ []) }
+    {
+        if !self.outbox.is_empty() {
+            return Err(NotCommitted);
+        }
         self.committed = self.done;
         Ok(())
     }

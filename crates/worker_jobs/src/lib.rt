@@ -2,9 +2,11 @@
 //!
 //! For each entry it writes one line of JSON, `{"id":"1-0","fields":[["name","value"],..],"stream":"orders"}`, and
 //! reads one line: `done`, `later`, `later TEXT`, `dead TEXT` or `stop`. The next line is written after that reply. An
-//! entry is done only if the reply to its line is `done`.
+//! entry is done only if the reply to its line is `done`, or `{"done":true}`. That may add entries to other streams,
+//! `{"done":true,"add":[["stream",{"name":"value"}]]}`: they are sent before the entry is acknowledged.
 #![tactic(auto)]
 
+mod added;
 pub mod entry_json;
 mod fault;
 mod jobs;
@@ -17,4 +19,4 @@ pub use fault::Fault;
 pub use jobs::{Jobs, Note};
 pub use line::entry_line;
 pub use pipes::{LONGEST, SteadyRead, SteadyWrite, read_line, write_line};
-pub use reply::{Reply, reply_in, text_in};
+pub use reply::{Reply, take_reply, text_in, word_in};

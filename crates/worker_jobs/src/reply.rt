@@ -1,11 +1,17 @@
 //! The reply of a child to an entry.
-ghost use Rattle.std.specs.Prelude.{◌≡◌};
-ghost use Rattle.worker_jobs.specs.VerdictOf.{text_of, verdict_of};
+ghost use Rattle.std.specs.Prelude.{◌≡◌, ◌++◌, IfOk, OnErr, OnOk};
+ghost use Rattle.worker.specs.Outbox.Sent.{unsent_of};
+ghost use Rattle.worker_jobs.specs.VerdictOf.{commands_of_line, text_of, verdict_of, word_of};
+
+use crate::added::queue_added;
+use crate::fault::Fault;
+use std::alloc::Global;
+use worker::outbox::Outbox;
 
 /// The reply of a child to an entry.
 #[derive(Clone, Copy, Debug, PartialEq, Eq)]
 pub enum Reply {
-    /// `done`: the entry is acknowledged, once the worker has committed.
+    /// `done`, or a reply of JSON: the entry is acknowledged, once the worker has committed.
     Done,
     /// `later` or `later TEXT`: it stays pending, and is delivered again.
     Later,
@@ -15,9 +21,31 @@ pub enum Reply {
     Stop,
 }
 
-/// Parses this line, without its line end; `None` if it is not a reply.
-pub fn reply_in(line: &[u8]) -> Option<Reply>
-    ensures { result ≡ verdict_of line.now }
+/// Parses this line, without its line end, and queues an XADD for each entry that it adds, if it is a reply of JSON:
+/// `{"done":true,"add":[["stream",{"name":"value"}]]}`. Returns `None`, and queues nothing, if it is not a reply.
+/// An `Err` queues nothing.
+pub fn take_reply(
+    alloc: Global,
+    line: &[u8],
+    outbox: &mut Outbox,
+) -> Result<Option<Reply>, Fault>
+    ensures reply { IfOk result (λ reply. reply ≡ verdict_of line.now) }
+    ensures added { OnOk result (unsent_of outbox.new ≡ unsent_of outbox.old ++ commands_of_line line.now) }
+    ensures err { OnErr result (unsent_of outbox.new ≡ unsent_of outbox.old) }
+{
+    if let Some(reply) = word_in(line) {
+        return Ok(Some(reply));
+    }
+    if queue_added(alloc, line, outbox)? {
+        Ok(Some(Reply::Done))
+    } else {
+        Ok(None)
+    }
+}
+
+/// Parses a reply of words, without its line end; `None` if it is not one.
+pub fn word_in(line: &[u8]) -> Option<Reply>
+    ensures { result ≡ word_of line.now }
 {
     if line == b"done".as_slice() {
         Some(Reply::Done)

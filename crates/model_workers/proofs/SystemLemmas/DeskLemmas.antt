@@ -29,7 +29,7 @@ asks_of names [] (e ∷ es) added now are q = absurd are
 asks_of names (l ∷ ls) [] added now are q = absurd are
 asks_of names (l ∷ ls) (e ∷ es) false true are q = absurd (let z : false ≡ true = q in cc)
 asks_of names (l ∷ ls) (e ∷ es) true false are q = absurd (let z : true ≡ false = q in cc)
-asks_of names (l ∷ ls) (e ∷ es) false false are q = (e, are.0.1.0, refl, are.0.1.1)
+asks_of names (l ∷ ls) (e ∷ es) false false are q = (e, are.0.1.0, are.0.1.1, refl, are.0.1.2)
 asks_of names (l ∷ ls) (e ∷ es) true true are q =
     (e.0, refl, ap (λ id. letters.of_first names (id, l.1) true) are.0.0)
 
@@ -73,20 +73,20 @@ letters_are_moves form s name which dead d is =
 
 -- ---- an entry is posted
 
-one_more : (dead : List ℕ) (ls : List (Id × List ℕ)) (es : List Entry) (e : Entry) (deliveries : ℕ)
-    → AreLetters dead ls es → AreLetters dead (ls ++ (e.0, letter_for dead e deliveries) ∷ []) (es ++ e ∷ [])
-one_more dead [] [] e deliveries are = ((refl, (deliveries, refl)), tt)
-one_more dead [] (x ∷ es) e deliveries are = absurd are
-one_more dead (l ∷ ls) [] e deliveries are = absurd are
-one_more dead (l ∷ ls) (x ∷ es) e deliveries are = (are.0, one_more dead ls es e deliveries are.1)
+one_more : (dead : List ℕ) (ls : List (Id × List ℕ)) (es : List Entry) (e : Entry) (deliveries : ℕ) (reason : List ℕ)
+    → AreLetters dead ls es → AreLetters dead (ls ++ (e.0, letter_for dead e deliveries reason) ∷ []) (es ++ e ∷ [])
+one_more dead [] [] e deliveries reason are = ((refl, (deliveries, reason, refl)), tt)
+one_more dead [] (x ∷ es) e deliveries reason are = absurd are
+one_more dead (l ∷ ls) [] e deliveries reason are = absurd are
+one_more dead (l ∷ ls) (x ∷ es) e deliveries reason are = (are.0, one_more dead ls es e deliveries reason are.1)
 
 pub posts_are_moves : PostsAreMoves
-posts_are_moves form s name which dead d e deliveries is =
+posts_are_moves form s name which dead d e deliveries reason is =
     let t : Desk = s.desks name in
     let now : Desk = record t { waiting = t.waiting ++ e ∷ [] } in
-    let more : letters.Desk = record d { waiting = d.waiting ++ (e.0, letter_for dead e deliveries) ∷ [] } in
+    let more : letters.Desk = record d { waiting = d.waiting ++ (e.0, letter_for dead e deliveries reason) ∷ [] } in
     subst (λ x. IsDesk dead more x) (sym (at_one s.desks name now)) (record {
-      waiting = one_more dead d.waiting t.waiting e deliveries is.waiting;
+      waiting = one_more dead d.waiting t.waiting e deliveries reason is.waiting;
       added = is.added;
     })
 

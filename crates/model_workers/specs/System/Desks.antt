@@ -14,9 +14,10 @@ use Rattle.model_workers.specs.System.System.{System, Desk, Move, Posts, Adds_le
 use Rattle.model_workers.specs.System.System.{Sends_ack, Settles, Restarts, new_desk, lettered_now, acknowledges_now}
 use Rattle.model_workers.specs.System.System.{moves, run}
 
--- an id and bytes are those of this entry, and of its dead letter
+-- an id and bytes are those of this entry, and of its dead letter, for any delivery count and any reason
 abbrev pub IsLetter : List ℕ → Id × List ℕ → Entry → Type 0
-IsLetter dead l e = (l.0 ≡ e.0) × ((deliveries : ℕ) × (l.1 ≡ letter_for dead e deliveries))
+IsLetter dead l e = (l.0 ≡ e.0)
+    × ((deliveries : ℕ) × (reason : List ℕ) × (l.1 ≡ letter_for dead e deliveries reason))
 
 -- so are these, in order
 abbrev pub AreLetters : List ℕ → List (Id × List ℕ) → List Entry → Type 0
@@ -34,8 +35,8 @@ pub record IsDesk (dead : List ℕ) (d : letters.Desk) (t : Desk) : Type 0 where
 -- acknowledges in the system
 abbrev pub AsksFor : Names → letters.Desk → Desk → LetterAsked → Type 0
 AsksFor names d t asked.Nothing = (t.waiting ≡ []) × (letter_bytes names d ≡ [])
-AsksFor names d t asked.Add = (e : Entry) × (deliveries : ℕ) × (lettered_now t ≡ e ∷ [])
-    × (letter_bytes names d ≡ letter_for names.2 e deliveries)
+AsksFor names d t asked.Add = (e : Entry) × (deliveries : ℕ) × (reason : List ℕ) × (lettered_now t ≡ e ∷ [])
+    × (letter_bytes names d ≡ letter_for names.2 e deliveries reason)
 AsksFor names d t asked.Acknowledge = (id : Id) × (acknowledges_now t ≡ id ∷ [])
     × (letter_bytes names d ≡ command_bytes (codes "XACK" ∷ names.0 ∷ names.1 ∷ acknowledges_now t))
 
@@ -58,8 +59,8 @@ LettersAreMoves = (form : Form) (s : System) (name : Name) (which : ℕ) (dead :
 -- an entry that the queue has now and did not have before was appended to it
 abbrev pub PostsAreMoves : Type 0
 PostsAreMoves = (form : Form) (s : System) (name : Name) (which : ℕ) (dead : List ℕ) (d : letters.Desk) (e : Entry)
-    (deliveries : ℕ) → IsDesk dead d (s.desks name)
-    → IsDesk dead (record d { waiting = d.waiting ++ (e.0, letter_for dead e deliveries) ∷ [] })
+    (deliveries : ℕ) (reason : List ℕ) → IsDesk dead d (s.desks name)
+    → IsDesk dead (record d { waiting = d.waiting ++ (e.0, letter_for dead e deliveries reason) ∷ [] })
     ((moves form s (Posts name which e)).desks name)
 
 -- a worker that is started has a new queue

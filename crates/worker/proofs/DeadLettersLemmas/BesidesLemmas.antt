@@ -7,7 +7,7 @@ use Rattle.redis_connection.specs.declared.error.AskError.TheVariants as errors
 use Rattle.redis_resp.specs.Tree.{Tree}
 use Rattle.redis_resp.specs.declared.value.error.ParsingError.{ParsingError}
 use Rattle.redis_wire.specs.Reply.{value}
-use Rattle.worker.specs.DeadLetters.Besides.{Besides, BreaksBesides, BreaksLooking, Looks, LooksNot, OnlyLooks}
+use Rattle.worker.specs.DeadLetters.Besides.{Besides, BreaksBesides, BreaksLooking, GivesUpNow, Looks, LooksNot, OnlyLooks}
 use Rattle.worker.specs.DeadLetters.Besides.{nothing, looks, gives_up}
 use Rattle.worker.specs.DeadLetters.Dead.{Claimer, GivesUp, GivesUpSome}
 use Rattle.worker.specs.declared.dead_letters.search.Waiting.{Waiting}
@@ -81,3 +81,9 @@ then_gives_some l m n c names entries a g = record {
   besides = one_look l m a;
   breaks = inr (record { claimer = c; names = names; entries = entries; breaks = g });
 }
+
+-- an entry was given up at once, or it is not pending for the consumer
+pub now_besides : (l n : Link) (c : Claimer) (names : Names) (id reason : List ℕ) → GivesUpNow c names id reason l n
+    → Besides l n
+now_besides l n c names id reason (inl look) = one_look l n look
+now_besides l n c names id reason (inr g) = then_gives_up l g.0 n c names (g.1 ∷ []) g.2 g.5

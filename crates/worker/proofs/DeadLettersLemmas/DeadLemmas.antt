@@ -12,6 +12,9 @@ use Rattle.redis_wire.specs.Packed.{command_bytes}
 use Rattle.redis_wire.specs.Reply.{Answer}
 use Rattle.worker.specs.Letters.{Entry}
 use Rattle.worker.specs.Letters.{Fields}
+use Rattle.redis_resp.specs.Value.{tree}
+use Rattle.redis_resp.specs.declared.value.Value.{Value}
+use Rattle.worker.specs.DeadLetters.Dead.{pending_of, row_of}
 use Rattle.worker.specs.DeadLetters.Dead.{Goes, DeliversSome, Row, rows_of, rows_reading, Claimer, claim_words, BreaksOff}
 use Rattle.worker.specs.DeadLetters.Dead.{PostedFields, Posted, PostsAll, PostsSome, GivesUpSome, none_waits}
 use Rattle.worker.specs.declared.dead_letters.search.Waiting.{Waiting}
@@ -98,14 +101,14 @@ pub posted_pairs : {P : Type 0} (f g : P → List ℕ) (dead : List ℕ) (w : Wa
       waiting = old.waiting ++ (
         id,
         command_bytes
-            (letter_sentence dead id w.deliveries (f p ∷ g p ∷ flat_map (λ q. f q ∷ g q ∷ []) ps)),
+            (letter_sentence dead w.reason.items id w.deliveries (f p ∷ g p ∷ flat_map (λ q. f q ∷ g q ∷ []) ps)),
       ) ∷ [];
     }
     → PostedFields dead w texts old new
 posted_pairs f g dead w p ps items texts id old new all are id_is waits =
     let fields : Fields = map (λ q. (f q, g q)) (p ∷ ps) in
     let with_words : List ℕ → List (List ℕ) → Desk = λ i ws. record old {
-      waiting = old.waiting ++ (i, command_bytes (letter_sentence dead i w.deliveries ws)) ∷ [];
+      waiting = old.waiting ++ (i, command_bytes (letter_sentence dead w.reason.items i w.deliveries ws)) ∷ [];
     } in
     let words : words_of fields ≡ flat_map (λ q. f q ∷ g q ∷ []) (p ∷ ps) = words_pairs f g (p ∷ ps) in
     inl (
@@ -211,3 +214,11 @@ delivered_some c names desks at_last ws es old m new first d d' same none still 
           (subst (λ x. PostsAll c desks.2 ws es old x m d) none posts),
       subst (λ (n : Names). DeliversSome n m d new d') (still ∙ same) some,
     ))
+
+-- ---- a page that was read
+
+-- the entries of decoded rows are those of the rows
+pub rows_are : (rows : List (String Global × Value × Value × ℕ))
+    → map row_of rows ≡ map pending_of (map (λ r. (string_bytes r.0, tree r.1, tree r.2, r.3)) rows)
+rows_are [] = refl
+rows_are (r ∷ rows) = ap (λ xs. row_of r ∷ xs) (rows_are rows)

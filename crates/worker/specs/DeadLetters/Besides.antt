@@ -1,5 +1,5 @@
 -- Commands that are sent between two rounds: those that only read, and those that give entries up.
-use Rattle.std.specs.Prelude.{◌≡◌, ◌⊎◌, ℕ, List, [], ◌∷◌, codes}
+use Rattle.std.specs.Prelude.{◌≡◌, ◌⊎◌, ℕ, List, [], ◌∷◌, codes, string_bytes}
 use Rattle.redis_connection.specs.Ask.{Exchanges}
 use Rattle.redis_connection.specs.Link.{Link}
 use Rattle.redis_connection.specs.declared.error.AskError.{AskError}
@@ -26,6 +26,12 @@ pub record BreaksLooking (old new : Link) : Type 0 where
   pub words : List (List ℕ)
   pub only : OnlyLooks words
   pub breaks : BreaksOff words old new
+
+-- XPENDING returned that the entry is not pending for the consumer, and nothing more was sent; or it was given up, and
+-- its letter has this reason
+abbrev pub GivesUpNow : Claimer → Names → List ℕ → List ℕ → Link → Link → Type 0
+GivesUpNow c names id reason old new = Looks old new ⊎ ((m : Link) × (w : Waiting) × Looks old m
+    × (string_bytes w.id ≡ id) × (w.reason.items ≡ reason) × GivesUp c names (w ∷ []) m new)
 
 -- such a command failed: the reply is an error, or of another kind; or no reply was received
 abbrev pub LooksNot : Link → Link → AskError → Type 0

@@ -1,15 +1,16 @@
 -- The search for entries that are given up, over a connection: none is acknowledged before the reply to its letter.
-use Rattle.std.specs.Prelude.{◌≡◌, ◌≢◌, ◌⊎◌, ℕ, zero, suc, true, false, List, [], ◌∷◌, ◌++◌, map, Option, Some}
+use Rattle.std.specs.Prelude.{◌≡◌, ◌≢◌, ◌⊎◌, ℕ, zero, suc, Bool, true, false, filter, if◌then◌else◌, nat_le, List, [], ◌∷◌, ◌++◌, map, Option, Some}
 use Rattle.std.specs.Prelude.{option_map, codes, decimal, String, Vec, string_bytes}
 use Rattle.std.specs.declared.alloc.Global.{Global}
 use Rattle.redis_args.specs.declared.raw_bytes.RawBytes.{RawBytes}
 use Rattle.redis_wire.specs.Packed.{command_bytes}
-use Rattle.redis_wire.specs.Reply.{Answer}
+use Rattle.redis_wire.specs.Reply.{Answer, code_of, first_error}
 use Rattle.redis_connection.specs.Ask.{Asks, Exchanges, Fails}
 use Rattle.redis_connection.specs.Link.{Link, Sends}
 use Rattle.redis_connection.specs.Passing.{ReceivesAnswer}
 use Rattle.redis_resp.specs.Bytes.{bytes_reading}
-use Rattle.redis_resp.specs.Reading.{list_reading, option_reading, two_reading}
+use Rattle.redis_resp.specs.Number.{unsigned_reading}
+use Rattle.redis_resp.specs.Reading.{four_reading, list_reading, option_reading, two_reading}
 use Rattle.redis_resp.specs.Text.{text_reading}
 use Rattle.redis_resp.specs.Tree.{Tree}
 use Rattle.redis_resp.specs.declared.value.Value.{Value}
@@ -37,13 +38,44 @@ IsRefused key to NoStream = string_bytes to.stream ≡ []
 IsRefused key to SameStream = string_bytes to.stream ≡ key
 IsRefused key to Memory = Unit {0}
 
--- the id of a pending entry, and its delivery count
-abbrev pub waiting_of : Waiting → List ℕ × ℕ
-waiting_of w = (string_bytes w.id, w.deliveries)
+-- the id of a pending entry, its delivery count, and why it is given up
+abbrev pub waiting_of : Waiting → List ℕ × ℕ × List ℕ
+waiting_of w = (string_bytes w.id, w.deliveries, w.reason.items)
 
--- the same of a row
-abbrev pub row_of : String Global × Value × Value × ℕ → List ℕ × ℕ
-row_of r = (string_bytes r.0, r.3)
+-- the same of a row, for no reason but its delivery count
+abbrev pub row_of : String Global × Value × Value × ℕ → List ℕ × ℕ × List ℕ
+row_of r = (string_bytes r.0, r.3, [])
+
+-- a row of the reply to XPENDING: the id, the consumer, the idle time, and the delivery count
+abbrev pub PendingRow : Type 0
+PendingRow = List ℕ × Tree × Tree × ℕ
+
+-- the rows that a value is
+abbrev pub pending_reading : Tree → Option (List PendingRow)
+pending_reading = list_reading (four_reading text_reading (λ t. Some t) (λ t. Some t) (unsigned_reading 64))
+
+-- the entry of a row: its id and its delivery count, and no other reason
+abbrev pub pending_of : PendingRow → List ℕ × ℕ × List ℕ
+pending_of row = (row.0, row.3, [])
+
+-- a command was sent, and the reply is these entries; or it is the error NOGROUP, and there are none
+abbrev pub ReadsPage : Link → Link → List (List ℕ) → List (List ℕ × ℕ × List ℕ) → Type 0
+ReadsPage old new words page = ((rows : List PendingRow) × Asks old new words pending_reading rows × (page ≡ map pending_of rows))
+    ⊎ ((a : Answer) × (text : List ℕ) × Exchanges old new words a × (first_error a ≡ Some text)
+    × (code_of text ≡ codes "NOGROUP") × (page ≡ []))
+
+-- `XPENDING key group start + 100 consumer` for own entries, and for those of all consumers
+-- `XPENDING key group IDLE min-idle start + 100`
+abbrev pub page_words : DeadLetterSearch → Bool → List ℕ → List (List ℕ)
+page_words d true start = codes "XPENDING" ∷ string_bytes d.key ∷ string_bytes d.group ∷ start ∷ codes "+"
+    ∷ decimal 100 ∷ string_bytes d.consumer ∷ []
+page_words d false start = codes "XPENDING" ∷ string_bytes d.key ∷ string_bytes d.group ∷ codes "IDLE"
+    ∷ decimal d.min_idle ∷ start ∷ codes "+" ∷ decimal 100 ∷ []
+
+-- `XPENDING key group id id 1 consumer`
+abbrev pub own_words : DeadLetterSearch → List ℕ → List (List ℕ)
+own_words d id = codes "XPENDING" ∷ string_bytes d.key ∷ string_bytes d.group ∷ id ∷ id ∷ decimal 1
+    ∷ string_bytes d.consumer ∷ []
 
 -- the page ends with an entry, and the next start is a parenthesis and its id
 pub record IsBehind (page : List Waiting) (start : List ℕ) : Type 0 where
@@ -101,7 +133,7 @@ pub record PostedOne (dead : List ℕ) (w : Waiting) (rows : List Row) (e : Entr
   pub just : AreJust rows e
   pub claimed : e.0 ≡ string_bytes w.id
   pub fields : e.1 ≢ []
-  pub waits : desk' ≡ record desk { waiting = desk.waiting ++ (e.0, letter_for dead e w.deliveries) ∷ [] }
+  pub waits : desk' ≡ record desk { waiting = desk.waiting ++ (e.0, letter_for dead e w.deliveries w.reason.items) ∷ [] }
 
 -- the reply is not exactly one entry with fields, and the queue is as before
 pub record PostedNone (rows : List Row) (desk desk' : Desk) : Type 0 where
@@ -112,7 +144,7 @@ pub record PostedNone (rows : List Row) (desk desk' : Desk) : Type 0 where
 abbrev pub PostedFields : List ℕ → Waiting → List (List ℕ) → Desk → Desk → Type 0
 PostedFields dead w texts desk desk' = ((fields : Fields) × (texts ≡ words_of fields) × (fields ≢ [])
     × (desk' ≡ record desk {
-      waiting = desk.waiting ++ (string_bytes w.id, letter_for dead (string_bytes w.id, fields) w.deliveries) ∷ [];
+      waiting = desk.waiting ++ (string_bytes w.id, letter_for dead (string_bytes w.id, fields) w.deliveries w.reason.items) ∷ [];
     })) ⊎ ((texts ≡ []) × (desk' ≡ desk))
 
 -- an entry was claimed, and these rows were returned
@@ -185,3 +217,12 @@ abbrev pub GivesUpSome : Claimer → Names → List Waiting → Link → Link �
 GivesUpSome c names ws old new = (new ≡ old) ⊎ (((d : Desk) × PostsSome c names.2 ws old none_waits new d)
     ⊎ ((es : List Entry) × (m : Link) × (d : Desk) × (d' : Desk) × PostsAll c names.2 ws es old none_waits m d
     × DeliversSome names m d new d'))
+
+-- a page of pending entries was read, and those that were delivered too often were claimed from whoever has had them for
+-- the idle time, and given up; own entries have no idle time
+pub record GivesUpPage (d : DeadLetterSearch) (own : Bool) (start : List ℕ) (old new : Link) : Type 0 where
+  pub page : List Waiting
+  pub between : Link
+  pub reads : ReadsPage old between (page_words d own start) (map waiting_of page)
+  pub gives_up : GivesUp (claimer_of d (if own then 0 else d.min_idle)) (letter_names d)
+      (filter (λ w. nat_le d.deliveries w.deliveries) page) between new

@@ -1,12 +1,12 @@
 //! The search for entries that were delivered too often.
-ghost use Rattle.std.specs.Prelude.{◌≡◌, ◌<◌, ◌≤◌, ◌%◌, ◌∷◌, [], IfErr, IfOk, IsTrue, MatchOption, Ok, OnErr, OnOk, Some, false, true};
+ghost use Rattle.std.specs.Prelude.{◌≡◌, ◌≢◌, ◌<◌, ◌≤◌, ◌%◌, ◌+◌, ◌∷◌, [], IfErr, IfOk, IfSome, IsTrue, MatchOption, Ok, OnErr, OnOk, Some, false, true};
 ghost use Rattle.std.specs.Prelude.{List, filter, length, map, nat_le, string_bytes};
 ghost use Rattle.std.specs.List.{flat_map};
 ghost use Rattle.worker.specs.Letters.{Entry};
 ghost use Rattle.redis_connection.specs.Ask.{Asks};
-ghost use Rattle.worker.specs.DeadLetters.Besides.{Besides, BreaksBesides, BreaksLooking, Looks, OnlyLooks};
-ghost use Rattle.worker.specs.DeadLetters.Dead.{AreJust, BreaksOff, Delivers, DeliversSome, GivesUp, GivesUpSome, IsBehind};
-ghost use Rattle.worker.specs.DeadLetters.Dead.{Posted, PostedFields, PostsAll, PostsSome, claim_words, claimer_of};
+ghost use Rattle.worker.specs.DeadLetters.Besides.{Besides, BreaksBesides, BreaksLooking, GivesUpNow, Looks, OnlyLooks};
+ghost use Rattle.worker.specs.DeadLetters.Dead.{AreJust, BreaksOff, Delivers, DeliversSome, GivesUp, GivesUpPage, GivesUpSome, IsBehind};
+ghost use Rattle.worker.specs.DeadLetters.Dead.{Posted, PostedFields, PostsAll, PostsSome, ReadsPage, claim_words, claimer_of, own_words, page_words};
 ghost use Rattle.worker.specs.DeadLetters.Dead.{IsAllowed, IsRefused, letter_names, none_waits, row_of, rows_of, rows_reading, waiting_of};
 ghost use Rattle.worker.specs.Letters.{desk_of, names_of};
 
@@ -39,6 +39,8 @@ pub struct Waiting {
     id: String,
     /// Its delivery count.
     deliveries: usize,
+    /// Why it is given up; empty if its delivery count is the reason.
+    reason: Vec<u8>,
 }
 
 /// Which entries are given up, and the stream for their letters.
@@ -134,6 +136,49 @@ impl DeadLetterSearch {
         self.letters
     }
 
+    /// Gives up an entry of this consumer at once, whatever its delivery count. Its letter begins with the reason, if
+    /// that is not empty. Does nothing if the entry is not pending for this consumer.
+    pub fn give_up_now<R: Read + Drop, W: Write + Drop>(
+        &mut self,
+        alloc: Global,
+        connection: &mut Connection<R, W>,
+        id: &str,
+        reason: &[u8],
+    ) -> Result<(), SearchError>
+        ensures ok { OnOk result (GivesUpNow (claimer_of self.old 0) (letter_names self.old)
+            id.now reason.now connection.old connection.new) }
+        ensures err { OnErr result (BreaksBesides connection.old connection.new) }
+        ensures same { claimer_of self.new 0 ≡ claimer_of self.old 0 }
+        ensures same_names { letter_names self.new ≡ letter_names self.old }
+    {
+        let found = self.find_own(alloc, connection, id, reason)?;
+        match found {
+            Some(entry) => self.give_up(alloc, connection, &[entry], 0),
+            None => Ok(()),
+        }
+    }
+
+    /// The entry with this id, to be given up for this reason; `None` if it is not pending for this consumer.
+    fn find_own<R: Read + Drop, W: Write + Drop>(
+        &self,
+        alloc: Global,
+        connection: &mut Connection<R, W>,
+        id: &str,
+        reason: &[u8],
+    ) -> Result<Option<Waiting>, SearchError>
+        ensures looks { OnOk result (Looks connection.old connection.new) }
+        ensures reads { OnOk result ((page : List Waiting) × ReadsPage connection.old connection.new
+            (own_words self.now id.now) (map waiting_of page)) }
+        ensures found { IfOk result (λ found. IfSome found (λ w. (string_bytes w.id ≡ id.now)
+            × (w.reason.items ≡ reason.now))) }
+        ensures err { OnErr result (BreaksLooking connection.old connection.new) }
+    {
+        let command =
+            xpending_consumer_count(&self.key, &self.group, id, id, 1, &self.consumer);
+        let page = ask_page(alloc, connection, &command)?;
+        Ok(pick_own(alloc, &page, id, reason)?)
+    }
+
     /// Call it before each command of a worker, with its last command. It searches before the first command and before
     /// each claim. It does not search while the worker has entries to acknowledge, in memory or in its file, since
     /// these are pending too.
@@ -220,6 +265,7 @@ impl DeadLetterSearch {
         own: bool,
     ) -> Result<Option<String>, SearchError>
         ensures ok { OnOk result (Besides connection.old connection.new) }
+        ensures given_up { OnOk result (GivesUpPage self.old own start.now connection.old connection.new) }
         ensures err { OnErr result (BreaksBesides connection.old connection.new) }
     {
         let page = self.page(alloc, connection, start, own)?;
@@ -239,13 +285,14 @@ impl DeadLetterSearch {
         own: bool,
     ) -> Result<Vec<Waiting>, SearchError>
         ensures ok { OnOk result (Looks connection.old connection.new) }
+        ensures reads { IfOk result (λ page. ReadsPage connection.old connection.new
+            (page_words self.now own start.now) (map waiting_of page.items)) }
         ensures err { OnErr result (BreaksLooking connection.old connection.new) }
     {
-        let key = self.key.as_str();
-        let group = self.group.as_str();
+        let key = &self.key;
+        let group = &self.group;
         if own {
-            let consumer = self.consumer.as_str();
-            let command = xpending_consumer_count(key, group, start, "+", PAGE, consumer);
+            let command = xpending_consumer_count(key, group, start, "+", PAGE, &self.consumer);
             ask_page(alloc, connection, &command)
         } else {
             let command = xpending_idle_count(key, group, self.min_idle, start, "+", PAGE);
@@ -265,6 +312,7 @@ impl DeadLetterSearch {
             entries.now connection.old connection.new) }
         ensures err { OnErr result (GivesUpSome (claimer_of self.old min_idle) (letter_names self.old)
             entries.now connection.old connection.new) }
+        ensures same { self.new ≡ record self.old { letters = self.new.letters } }
     {
         let mut desk = self.desk(alloc)?;
         self.post_all(alloc, connection, &mut desk, entries, min_idle)?;
@@ -332,6 +380,26 @@ impl DeadLetterSearch {
     }
 }
 
+/// The entry of a page with just this entry, to be given up for this reason; `None` if the page is another one.
+fn pick_own(
+    alloc: Global,
+    page: &[Waiting],
+    id: &str,
+    reason: &[u8],
+) -> Result<Option<Waiting>, AllocError>
+    ensures { IfOk result (λ found. IfSome found (λ w. (string_bytes w.id ≡ id.now)
+        × (w.reason.items ≡ reason.now))) }
+{
+    match page {
+        [found] if found.id.as_str() == id => Ok(Some(Waiting {
+            id: String::from_str(alloc, id)?,
+            deliveries: found.deliveries,
+            reason: Vec::from_slice(alloc, reason)?,
+        })),
+        _ => Ok(None),
+    }
+}
+
 /// Checks the settings of a search.
 fn check_settings(key: &str, to: &GiveUp) -> Result<(), SearchSettingsError>
     ensures ok { OnOk result (IsAllowed key.now to.now) }
@@ -350,7 +418,10 @@ fn check_settings(key: &str, to: &GiveUp) -> Result<(), SearchSettingsError>
 }
 
 /// How many reads were made, if this was the last command.
-fn count_reads(reads: usize, asked: Asked) -> usize {
+fn count_reads(reads: usize, asked: Asked) -> usize
+    ensures read { asked ≡ Asked.New → reads < 18446744073709551615 → result ≡ reads + 1 }
+    ensures other { asked ≢ Asked.New → result ≡ reads }
+{
     if asked == Asked::New {
         reads.saturating_add(1)
     } else {
@@ -365,6 +436,8 @@ fn ask_page<T: ToRedisArgs, R: Read + Drop, W: Write + Drop>(
     command: &T,
 ) -> Result<Vec<Waiting>, SearchError>
     ensures ok { OnlyLooks (T.args command.now) → OnOk result (Looks connection.old connection.new) }
+    ensures reads { IfOk result (λ page. ReadsPage connection.old connection.new (T.args command.now)
+        (map waiting_of page.items)) }
     ensures err { OnlyLooks (T.args command.now) → OnErr result (BreaksLooking connection.old connection.new) }
 {
     match connection.ask_as(alloc, command) {
@@ -382,7 +455,12 @@ fn collect_waiting(alloc: Global, rows: Vec<Row>) -> Result<Vec<Waiting>, AllocE
 {
     let mut all = Vec::with_capacity(alloc, rows.len())?;
     for (id, _consumer, _idle, deliveries) in rows {
-        all.push(Waiting { id, deliveries })?;
+        let reason = Vec::new(alloc);
+        all.push(Waiting {
+            id,
+            deliveries,
+            reason,
+        })?;
     }
     Ok(all)
 }
@@ -439,7 +517,8 @@ fn post_fields(
     let Some(fields) = AtLeastOne::new(&fields) else {
         return Ok(());
     };
-    match desk.give_up(alloc, entry.id.as_str(), entry.deliveries, &fields) {
+    let id = entry.id.as_str();
+    match desk.give_up_for(alloc, &entry.reason, id, entry.deliveries, &fields) {
         Ok(()) => Ok(()),
         Err(error) => Err(convert_write_error(error)),
     }

@@ -1,0 +1,104 @@
+-- Entries that a reply of JSON adds to other streams, `{"done":true,"add":[["results",{"id":"7"}]]}`.
+use Rattle.std.specs.Prelude.{◌≡◌, ℕ, List, [], ◌∷◌, ◌++◌, Bool, true, false, ◌&&◌, Option, Some, None, if◌then◌else◌, codes, map}
+use Rattle.std.specs.Prelude.{option_and_then, option_map}
+use Rattle.std.specs.Str.{bytes_eq, is_utf8}
+use Rattle.json.specs.Json.{Json, null, boolean, number, string, array, object, Items, no_items, item, Members, no_members}
+use Rattle.json.specs.Json.{member, document}
+use Rattle.redis_wire.specs.Packed.{command_bytes}
+use Rattle.worker.specs.Letters.{Fields, words_of}
+
+-- an entry that is added: the stream, and its fields in order
+pub record Added : Type 0 where
+  pub stream : List ℕ
+  pub fields : Fields
+
+-- `XADD stream * name value ..`
+abbrev pub added_words : Added → List (List ℕ)
+added_words a = codes "XADD" ∷ a.stream ∷ codes "*" ∷ words_of a.fields
+
+-- the bytes of that command
+abbrev pub added_bytes : Added → List ℕ
+added_bytes a = command_bytes (added_words a)
+
+-- the names and values of an object, if all values are strings
+abbrev pub fields_in : Members → Option Fields
+fields_in no_members = Some []
+fields_in (member name (string value) rest) = option_map (λ fields. (name, value) ∷ fields) (fields_in rest)
+fields_in (member name null rest) = None
+fields_in (member name (boolean b) rest) = None
+fields_in (member name (number n) rest) = None
+fields_in (member name (array js) rest) = None
+fields_in (member name (object ms) rest) = None
+
+-- an entry of this stream with these fields, if neither is empty
+abbrev pub entry_with : List ℕ → Members → Option Added
+entry_with [] members = None
+entry_with (b ∷ stream) no_members = None
+entry_with (b ∷ stream) (member name value rest) =
+    option_map (λ fields. record { stream = b ∷ stream; fields = fields }) (fields_in (member name value rest))
+
+-- the entry of a pair, `["results",{"id":"7"}]`
+abbrev pub entry_of_pair : Items → Option Added
+entry_of_pair (item (string stream) (item (object members) no_items)) = entry_with stream members
+entry_of_pair _ = None
+
+-- the same of any value
+abbrev pub entry_in : Json → Option Added
+entry_in (array pair) = entry_of_pair pair
+entry_in _ = None
+
+-- the entries of an array of pairs
+abbrev pub entries_in : Items → Option (List Added)
+entries_in no_items = Some []
+entries_in (item j rest) = option_and_then (λ a. option_map (λ more. a ∷ more) (entries_in rest)) (entry_in j)
+
+-- the member is `"done":true`
+abbrev pub is_done : List ℕ → Json → Bool
+is_done name (boolean b) = b && bytes_eq name (codes "done")
+is_done name _ = false
+
+-- the array of the member `add`
+abbrev pub array_of : List ℕ → Json → Option Items
+array_of name (array js) = if bytes_eq name (codes "add") then Some js else None
+array_of name _ = None
+
+-- what the members of a reply add: one of them is `"done":true`, and the other, if there is one, is `add`
+abbrev pub added_by : Members → Option Items
+added_by (member k v no_members) = if is_done k v then Some no_items else None
+added_by (member k v (member l w no_members)) =
+    if is_done k v then array_of l w else if is_done l w then array_of k v else None
+added_by _ = None
+
+-- the same of any value
+abbrev pub added_of : Json → Option Items
+added_of (object members) = added_by members
+added_of _ = None
+
+-- the entries that a value adds, and none if it is not such a reply
+abbrev pub entries_of : Json → Option (List Added)
+entries_of j = option_and_then entries_in (added_of j)
+
+-- the entries that a line adds, and none if it is not such a reply
+abbrev pub entries_of_line : List ℕ → Option (List Added)
+entries_of_line line = if is_utf8 line then option_and_then entries_of (document line) else None
+
+-- the commands of a line are queued after these; or the line is not such a reply, and the queue is as before
+abbrev pub Queues : Option (List Added) → Bool → List (List ℕ) → List (List ℕ) → Type 0
+Queues (Some entries) true old new = new ≡ old ++ map added_bytes entries
+Queues (Some entries) false old new = ⊥
+Queues None true old new = ⊥
+Queues None false old new = new ≡ old
+
+-- the same, but some commands may be queued though it is not such a reply
+abbrev pub QueuesSome : Option (List Added) → Bool → List (List ℕ) → List (List ℕ) → Type 0
+QueuesSome (Some entries) true old new = new ≡ old ++ map added_bytes entries
+QueuesSome (Some entries) false old new = ⊥
+QueuesSome None true old new = ⊥
+QueuesSome None false old new = (more : List (List ℕ)) × (new ≡ old ++ more)
+
+-- the command of one entry is queued; or it is none, and the queue is as before
+abbrev pub QueuesOne : Option Added → Bool → List (List ℕ) → List (List ℕ) → Type 0
+QueuesOne (Some a) true old new = new ≡ old ++ added_bytes a ∷ []
+QueuesOne (Some a) false old new = ⊥
+QueuesOne None true old new = ⊥
+QueuesOne None false old new = new ≡ old
