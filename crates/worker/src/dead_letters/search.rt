@@ -173,8 +173,7 @@ impl DeadLetterSearch {
             × (w.reason.items ≡ reason.now))) }
         ensures err { OnErr result (BreaksLooking connection.old connection.new) }
     {
-        let command =
-            xpending_consumer_count(&self.key, &self.group, id, id, 1, &self.consumer);
+        let command = xpending_consumer_count(&self.key, &self.group, id, id, 1, &self.consumer);
         let page = ask_page(alloc, connection, &command)?;
         Ok(pick_own(alloc, &page, id, reason)?)
     }
