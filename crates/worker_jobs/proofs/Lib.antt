@@ -3,4 +3,6 @@ mod TellLemmas
 mod PipesLemmas
 pub mod TalkLemmas
 mod AcknowledgedLemmas
+mod AddedLemmas
+mod NotedLemmas
 pub mod EntryJsonLemmas

@@ -2,8 +2,8 @@
 use Rattle.std.specs.Prelude.{◌≡◌, ℕ, List, [], ◌∷◌, ◌++◌, Bool, true, false, ◌&&◌, Option, Some, None, if◌then◌else◌, codes, map}
 use Rattle.std.specs.Prelude.{option_and_then, option_map}
 use Rattle.std.specs.Str.{bytes_eq, is_utf8}
-use Rattle.json.specs.Json.{Json, null, boolean, number, string, array, object, Items, no_items, item, Members, no_members}
-use Rattle.json.specs.Json.{member, document}
+use Rattle.json.specs.Find.{as_str}
+use Rattle.json.specs.Json.{Json, boolean, array, object, Items, no_items, item, Members, no_members, member, document}
 use Rattle.redis_wire.specs.Packed.{command_bytes}
 use Rattle.worker.specs.Letters.{Fields, words_of}
 
@@ -23,23 +23,25 @@ added_bytes a = command_bytes (added_words a)
 -- the names and values of an object, if all values are strings
 abbrev pub fields_in : Members → Option Fields
 fields_in no_members = Some []
-fields_in (member name (string value) rest) = option_map (λ fields. (name, value) ∷ fields) (fields_in rest)
-fields_in (member name null rest) = None
-fields_in (member name (boolean b) rest) = None
-fields_in (member name (number n) rest) = None
-fields_in (member name (array js) rest) = None
-fields_in (member name (object ms) rest) = None
+fields_in (member name value rest) =
+    option_and_then (λ text. option_map (λ fields. (name, text) ∷ fields) (fields_in rest)) (as_str value)
 
 -- an entry of this stream with these fields, if neither is empty
-abbrev pub entry_with : List ℕ → Members → Option Added
-entry_with [] members = None
-entry_with (b ∷ stream) no_members = None
-entry_with (b ∷ stream) (member name value rest) =
-    option_map (λ fields. record { stream = b ∷ stream; fields = fields }) (fields_in (member name value rest))
+abbrev pub entry_with : List ℕ → Option Fields → Option Added
+entry_with stream None = None
+entry_with stream (Some []) = None
+entry_with [] (Some (field ∷ fields)) = None
+entry_with (b ∷ stream) (Some (field ∷ fields)) =
+    Some (record { stream = b ∷ stream; fields = field ∷ fields })
+
+-- an entry of this stream, if the value is an object of fields
+abbrev pub entry_of : List ℕ → Json → Option Added
+entry_of stream (object fields) = entry_with stream (fields_in fields)
+entry_of stream _ = None
 
 -- the entry of a pair, `["results",{"id":"7"}]`
 abbrev pub entry_of_pair : Items → Option Added
-entry_of_pair (item (string stream) (item (object members) no_items)) = entry_with stream members
+entry_of_pair (item stream (item fields no_items)) = option_and_then (λ text. entry_of text fields) (as_str stream)
 entry_of_pair _ = None
 
 -- the same of any value
@@ -102,3 +104,8 @@ QueuesOne (Some a) true old new = new ≡ old ++ added_bytes a ∷ []
 QueuesOne (Some a) false old new = ⊥
 QueuesOne None true old new = ⊥
 QueuesOne None false old new = new ≡ old
+
+-- these are names and values by turns
+abbrev pub AreWords : Option Fields → List (List ℕ) → Type 0
+AreWords None words = ⊥
+AreWords (Some fields) words = words ≡ words_of fields

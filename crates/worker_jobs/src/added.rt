@@ -1,11 +1,9 @@
 //! Entries that a reply of JSON adds to other streams.
-ghost use Rattle.std.specs.Prelude.{◌≡◌, ◌++◌, ◌∷◌, [], IfOk, List, MatchOption, None, OnErr, Some, ℕ, map, option_map};
-ghost use Rattle.json.specs.Json.{Items};
+ghost use Rattle.std.specs.Prelude.{◌≡◌, ◌++◌, ◌∷◌, [], IfOk, List, MatchOption, None, OnErr, ℕ, flat_map, option_and_then};
 ghost use Rattle.json.specs.Value.{items_view, members_view, value_view};
-ghost use Rattle.worker.specs.Letters.{words_of};
 ghost use Rattle.worker.specs.Outbox.Sent.{unsent_of};
-ghost use Rattle.worker_jobs.specs.Added.{Queues, QueuesOne, QueuesSome, added_of, array_of, entries_in, entries_of, entries_of_line};
-ghost use Rattle.worker_jobs.specs.Added.{entry_in, fields_in, is_done};
+ghost use Rattle.worker_jobs.specs.Added.{AreWords, Queues, QueuesOne, QueuesSome, added_by, array_of, entries_in};
+ghost use Rattle.worker_jobs.specs.Added.{entries_of_line, entry_in, entry_of, entry_of_pair, entry_with, fields_in, is_done};
 
 use crate::fault::Fault;
 use json::{Error, Scratch, Value};
@@ -50,25 +48,27 @@ fn queue_line(alloc: Global, line: &[u8], outbox: &mut Outbox) -> Result<bool, F
         Err(Error::Invalid) => return Ok(false),
         Err(_) => return Err(Fault::Memory),
     };
-    match find_added(&value) {
-        Some(items) => queue_items(alloc, items, outbox),
-        None => Ok(false),
+    match value {
+        Value::Object(members) => queue_members(alloc, &members, outbox),
+        _ => Ok(false),
     }
 }
 
-/// The array of the entries that a reply adds; it is empty if the reply has none. `None` if it is not a reply.
-fn find_added<'v, 'a>(value: &'v Value<'a>) -> Option<&'v [Value<'a>]>
-    ensures { MatchOption result (added_of (value_view value.now) ≡ None)
-        (λ items. added_of (value_view value.now) ≡ Some (items_view items.now)) }
+/// Queues an XADD for each entry that an object adds. Returns false if it is not a reply.
+fn queue_members(
+    alloc: Global,
+    members: &[(&str, Value<'_>)],
+    outbox: &mut Outbox,
+) -> Result<bool, Fault>
+    ensures ok { IfOk result (λ is. QueuesSome (option_and_then entries_in (added_by (members_view members.now))) is
+        (unsent_of outbox.old) (unsent_of outbox.new)) }
+    ensures err { OnErr result ((more : List (List ℕ)) × (unsent_of outbox.new ≡ unsent_of outbox.old ++ more)) }
 {
-    let Value::Object(members) = value else {
-        return None;
-    };
-    match members.as_slice() {
-        [one] if is_done_member(one) => Some(&[]),
-        [one, other] if is_done_member(one) => find_array(other),
-        [one, other] if is_done_member(other) => find_array(one),
-        _ => None,
+    match members {
+        [one] => Ok(is_done_member(one)),
+        [one, other] if is_done_member(one) => queue_array(alloc, other, outbox),
+        [one, other] if is_done_member(other) => queue_array(alloc, one, outbox),
+        _ => Ok(false),
     }
 }
 
@@ -82,14 +82,20 @@ fn is_done_member(member: &(&str, Value<'_>)) -> bool
     }
 }
 
-/// The array of the member `add`; `None` if this is another member.
-fn find_array<'v, 'a>(member: &'v (&'a str, Value<'a>)) -> Option<&'v [Value<'a>]>
-    ensures { MatchOption result (array_of member.now.0.now (value_view member.now.1) ≡ None)
-        (λ items. array_of member.now.0.now (value_view member.now.1) ≡ Some (items_view items.now)) }
+/// Queues an XADD for each entry of the member `add`. Returns false if this is another member.
+fn queue_array(
+    alloc: Global,
+    member: &(&str, Value<'_>),
+    outbox: &mut Outbox,
+) -> Result<bool, Fault>
+    ensures ok { IfOk result (λ is. QueuesSome
+        (option_and_then entries_in (array_of member.now.0.now (value_view member.now.1))) is
+        (unsent_of outbox.old) (unsent_of outbox.new)) }
+    ensures err { OnErr result ((more : List (List ℕ)) × (unsent_of outbox.new ≡ unsent_of outbox.old ++ more)) }
 {
     match &member.1 {
-        Value::Array(items) if member.0 == "add" => Some(items.as_slice()),
-        _ => None,
+        Value::Array(items) if member.0 == "add" => queue_items(alloc, items, outbox),
+        _ => Ok(false),
     }
 }
 
@@ -99,10 +105,12 @@ fn queue_items(alloc: Global, items: &[Value<'_>], outbox: &mut Outbox) -> Resul
         (unsent_of outbox.old) (unsent_of outbox.new)) }
     ensures err { OnErr result ((more : List (List ℕ)) × (unsent_of outbox.new ≡ unsent_of outbox.old ++ more)) }
 {
-    for item in items {
+    let mut rest = items;
+    while let [item, more @ ..] = rest {
         if !queue_item(alloc, item, outbox)? {
             return Ok(false);
         }
+        rest = more;
     }
     Ok(true)
 }
@@ -113,19 +121,64 @@ fn queue_item(alloc: Global, item: &Value<'_>, outbox: &mut Outbox) -> Result<bo
         (unsent_of outbox.old) (unsent_of outbox.new)) }
     ensures err { OnErr result (unsent_of outbox.new ≡ unsent_of outbox.old) }
 {
-    let Value::Array(pair) = item else {
-        return Ok(false);
-    };
-    let [Value::String(stream), Value::Object(members)] = pair.as_slice() else {
-        return Ok(false);
-    };
-    if stream.is_empty() || members.is_empty() {
-        return Ok(false);
+    match item {
+        Value::Array(pair) => queue_pair(alloc, pair, outbox),
+        _ => Ok(false),
     }
+}
+
+/// The same of the items of an array.
+fn queue_pair(alloc: Global, pair: &[Value<'_>], outbox: &mut Outbox) -> Result<bool, Fault>
+    ensures ok { IfOk result (λ is. QueuesOne (entry_of_pair (items_view pair.now)) is
+        (unsent_of outbox.old) (unsent_of outbox.new)) }
+    ensures err { OnErr result (unsent_of outbox.new ≡ unsent_of outbox.old) }
+{
+    match pair {
+        [stream, fields] => match stream.as_str() {
+            Some(stream) => queue_fields(alloc, stream, fields, outbox),
+            None => Ok(false),
+        },
+        _ => Ok(false),
+    }
+}
+
+/// The same of a stream and a value for its fields.
+fn queue_fields<'a>(
+    alloc: Global,
+    stream: &'a str,
+    fields: &Value<'a>,
+    outbox: &mut Outbox,
+) -> Result<bool, Fault>
+    ensures ok { IfOk result (λ is. QueuesOne (entry_of stream.now (value_view fields.now)) is
+        (unsent_of outbox.old) (unsent_of outbox.new)) }
+    ensures err { OnErr result (unsent_of outbox.new ≡ unsent_of outbox.old) }
+{
+    match fields {
+        Value::Object(members) => queue_entry(alloc, stream, members, outbox),
+        _ => Ok(false),
+    }
+}
+
+/// Queues the XADD of an entry of this stream. Returns false if the stream has no name, if there are no fields, or if a
+/// value is not a string.
+fn queue_entry<'a>(
+    alloc: Global,
+    stream: &'a str,
+    members: &[(&'a str, Value<'a>)],
+    outbox: &mut Outbox,
+) -> Result<bool, Fault>
+    ensures ok { IfOk result (λ is. QueuesOne (entry_with stream.now (fields_in (members_view members.now))) is
+        (unsent_of outbox.old) (unsent_of outbox.new)) }
+    ensures err { OnErr result (unsent_of outbox.new ≡ unsent_of outbox.old) }
+{
     let Some(words) = collect_fields(alloc, members)? else {
         return Ok(false);
     };
-    match outbox.push(alloc, &("XADD", *stream, "*", words.as_slice())) {
+    if stream.is_empty() || words.as_slice().is_empty() {
+        return Ok(false);
+    }
+    let command = ("XADD", stream, "*", words);
+    match outbox.push(alloc, &command) {
         Ok(()) => Ok(true),
         Err(_) => Err(Fault::Memory),
     }
@@ -137,16 +190,17 @@ fn collect_fields<'a>(
     members: &[(&'a str, Value<'a>)],
 ) -> Result<Option<Vec<&'a str>>, AllocError>
     ensures { IfOk result (λ words. MatchOption words (fields_in (members_view members.now) ≡ None)
-        (λ words. option_map words_of (fields_in (members_view members.now))
-        ≡ Some (map (λ word. word.now) words.items))) }
+        (λ words. AreWords (fields_in (members_view members.now)) (flat_map (λ word. word.now ∷ []) words.items))) }
 {
     let mut words = Vec::new(alloc);
-    for (name, value) in members {
-        let Value::String(text) = value else {
+    let mut rest = members;
+    while let [member, more @ ..] = rest {
+        let Some(text) = member.1.as_str() else {
             return Ok(None);
         };
-        words.push(*name)?;
-        words.push(*text)?;
+        words.push(member.0)?;
+        words.push(text)?;
+        rest = more;
     }
     Ok(Some(words))
 }

@@ -178,7 +178,7 @@ impl<R: SteadyRead + Drop, W: SteadyWrite + Drop> Jobs<R, W> {
             self.old.notes.items self.new.notes.items) }
     {
         let text = text_in(&self.reply);
-        if text.is_empty() && !dead {
+        if !dead && text.is_empty() {
             return Ok(());
         }
         let note = Note {

@@ -1,5 +1,5 @@
 //! The reply of a child to an entry.
-ghost use Rattle.std.specs.Prelude.{◌≡◌, ◌++◌, IfOk, OnErr, OnOk};
+ghost use Rattle.std.specs.Prelude.{◌≡◌, ◌++◌, IfOk, None, Ok, OnErr, OnOk};
 ghost use Rattle.worker.specs.Outbox.Sent.{unsent_of};
 ghost use Rattle.worker_jobs.specs.VerdictOf.{commands_of_line, text_of, verdict_of, word_of};
 
@@ -24,13 +24,10 @@ pub enum Reply {
 /// Parses this line, without its line end, and queues an XADD for each entry that it adds, if it is a reply of JSON:
 /// `{"done":true,"add":[["stream",{"name":"value"}]]}`. Returns `None`, and queues nothing, if it is not a reply.
 /// An `Err` queues nothing.
-pub fn take_reply(
-    alloc: Global,
-    line: &[u8],
-    outbox: &mut Outbox,
-) -> Result<Option<Reply>, Fault>
+pub fn take_reply(alloc: Global, line: &[u8], outbox: &mut Outbox) -> Result<Option<Reply>, Fault>
     ensures reply { IfOk result (λ reply. reply ≡ verdict_of line.now) }
     ensures added { OnOk result (unsent_of outbox.new ≡ unsent_of outbox.old ++ commands_of_line line.now) }
+    ensures none { result ≡ Ok None → unsent_of outbox.new ≡ unsent_of outbox.old }
     ensures err { OnErr result (unsent_of outbox.new ≡ unsent_of outbox.old) }
 {
     if let Some(reply) = word_in(line) {
