@@ -1,0 +1,188 @@
+"""Wrong bodies, as tools/check/refused and tools/check/planted try them: each in a copy of its crate, and only in some functions.
+
+'rt ci' would prove a crate once more for bodies in a folder must-fail/. Here the prover is asked for the functions that are
+named alone, and for those that they call. So what a body costs does not grow with the crate.
+"""
+import os
+import re
+import shutil
+import subprocess
+import sys
+import tempfile
+import threading
+
+from shared import text_of as read, write
+from unproved import KIT, ROOT
+
+PARTS = ("src", "specs", "proofs")
+BUILDING = threading.Lock()
+# What the prover says if it gives up at a limit of its own, which it meets wherever it tries the same.
+LIMIT = re.compile(r"antt ran out of |outgrew the memory limit|stopped at the step limit")
+
+
+class Unfit(Exception):
+    """An edit that cannot be applied, or a library that is not proved."""
+
+
+def shelves(name):
+    """Returns the files of the shelf of this name, by crate."""
+    found = {}
+    for crate in sorted(os.listdir(f"{ROOT}/crates")):
+        folder = f"{ROOT}/crates/{crate}/{name}"
+        if os.path.isdir(folder):
+            found[crate] = sorted(f"{folder}/{name}" for name in os.listdir(folder))
+    return found
+
+
+def edited(crate, edit, texts=None):
+    """Returns the function that an edit names, if it names one, the texts of the files that it changes, and for each change
+    the file and the place of it. A line 'more:' adds a further line to the text that is replaced. `texts` are files that other edits changed before, which it is applied to."""
+    function, path, old, texts, sites = None, None, None, dict(texts or {}), []
+    for line in read(edit).split("\n"):
+        word, _, rest = line.partition(":")
+        rest = rest[1:]
+        if word == "function":
+            function = rest.strip()
+        elif word == "file":
+            path = rest.strip()
+            if not os.path.isfile(f"{ROOT}/crates/{crate}/{path}"):
+                raise Unfit(f"there is no file {path}")
+            texts.setdefault(path, read(f"{ROOT}/crates/{crate}/{path}"))
+        elif word == "old":
+            old = rest
+        elif word == "more" and old:
+            old += "\n" + rest
+        elif word == "new" and path and old:
+            if texts[path].count(old) != 1:
+                raise Unfit(f"'{old}' is in {path} {texts[path].count(old)} times, and not once")
+            sites.append((path, texts[path].index(old)))
+            texts[path], old = texts[path].replace(old, rest), None
+    if not sites:
+        raise Unfit("it changes nothing")
+    return function, texts, sites
+
+
+def words_of(crate):
+    """Returns the words by which the crate is checked over the built libraries below it, as 'rt check' does."""
+    if f"{KIT}/bin" not in sys.path:
+        sys.path.insert(0, f"{KIT}/bin")
+    import rtlib
+    crate = rtlib.Crate(f"{ROOT}/crates/{crate}", ROOT, {})
+    with BUILDING:
+        for below in crate.below():
+            if not os.path.isdir(below.rlib) and subprocess.run(["rt", "lib"], cwd=below.folder, stdout=subprocess.DEVNULL).returncode:
+                raise Unfit(f"the library {below.name} is not proved")
+    return [f"{KIT}/bin/rattle", "check", *crate.words(["--jobs", "1"], keeps=False)]
+
+
+def checked(crate, texts, functions, kept):
+    """Checks these functions, or all if there are none, in a copy of the crate with these texts in place of its own, over
+    what earlier checks left in the folder `kept`. Returns the lines that the check said, and its exit status."""
+    with tempfile.TemporaryDirectory(prefix="rt-edit-") as copy:
+        for part in PARTS:
+            if os.path.isdir(f"{ROOT}/crates/{crate}/{part}"):
+                shutil.copytree(f"{ROOT}/crates/{crate}/{part}", f"{copy}/{part}")
+        for path, text in texts.items():
+            write(f"{copy}/{path}", text)
+        only = [word for function in functions for word in ("--only", function)]
+        words = [*words_of(crate), "--incremental", kept, *only]
+        ran = subprocess.run(words, cwd=copy, stdin=subprocess.DEVNULL, stdout=subprocess.PIPE, stderr=subprocess.STDOUT,
+                             text=True, errors="replace")
+        return ran.stdout.rstrip().split("\n"), ran.returncode
+
+
+def module_of(path):
+    """Returns the module that a file of src/ is, as the prover names it: '' is the root, and None is no module."""
+    if not path.startswith("src/"):
+        return None
+    parts = path[len("src/"):-len(".rt")].split("/")
+    return "" if parts in (["lib"], ["main"]) else "::".join(it for it in parts if it != "mod")
+
+
+def functions_in(text):
+    """Returns the functions of a file: of each its name, the type of its impl if it is in one, and where it begins and ends."""
+    found = []
+    for head in re.finditer(r"(?m)^( *)(?:[a-z]+(?:\([a-z]+\))? |extern \"C\" )*fn (\w+)", text):
+        end = re.compile(rf"(?m)^{head[1]}}}").search(text, head.end())
+        owner = [*re.finditer(r"(?m)^impl\b(?:<[^{]*?>)? (?:[^{]*? for )?(\w+)", text[:head.start()])] if head[1] else []
+        if end:
+            found.append((head[2], owner[-1][1] if owner else "", head.start(), end.end()))
+    return found
+
+
+def sources(crate):
+    """Returns the path and the text of each file of src/ of the crate."""
+    folder = f"{ROOT}/crates/{crate}"
+    return [(os.path.relpath(f"{at}/{name}", folder), read(f"{at}/{name}"))
+            for at, _, names in os.walk(f"{folder}/src") for name in names]
+
+
+def size_of(crate):
+    """Returns how many bytes the texts of the crate have: the more, the longer its check takes."""
+    folder = f"{ROOT}/crates/{crate}"
+    return sum(os.path.getsize(f"{at}/{name}") for part in PARTS for at, _, names in os.walk(f"{folder}/{part}") for name in names)
+
+
+class Calls:
+    """Which functions of a crate call which others, by the names in their texts. Names of several functions are passed over:
+    a body that is tried at once with one that its function calls is not judged, and is tried by itself then."""
+
+    def __init__(self, crate):
+        texts, several, self.reached = {}, set(), {}
+        for _, text in sources(crate):
+            for name, _, start, end in functions_in(text):
+                several |= {name} & {*texts}
+                texts[name] = text[start:end]
+        words = {name: {*re.findall(r"\w+", text)} & {*texts} - several - {name} for name, text in texts.items()}
+        for name in words:
+            reached, more = set(), {name}
+            while more:
+                reached |= more
+                more = {it for one in more for it in words[one]} - reached
+            self.reached[name] = reached
+
+    def are_apart(self, some, others):
+        """Whether no function of one of these sets of names is in the other, or calls one of the other."""
+        reach = lambda names: {it for name in names for it in self.reached.get(name, {name})}
+        return not reach(some) & others and not reach(others) & some
+
+
+def lost_in(said):
+    """Returns the functions that a check says it did not prove. One that only calls such a one is not judged itself."""
+    lost = (re.match(r"fn (\S+): (?:not proved|no proof(?!: it calls ))", line) for line in said)
+    return {it[1] for it in lost if it}
+
+
+TOLD = re.compile(r"(?:note: )?(?:\./)?(\S+?):(\d+):\d+: ")
+
+
+def reasons(said):
+    """Returns the reasons that a check gave why something is not proved: for each its file, its line in it, and the text."""
+    found = [(TOLD.match(line), line) for line in said]
+    return [(at[1], int(at[2]), line) for at, line in found
+            if at and (": error" in line or "it is not proved" in line or line.startswith("note: "))]
+
+
+def first_of(reasons):
+    """Returns the first of some reasons. If there are none but that a proof names what the edit took away, it says so."""
+    names = re.compile(r"(note: )?(\./)?proofs/.*(has no field|is not in scope|has no `|was not admitted|depends? on)")
+    first = next((line for _, _, line in reasons if not names.match(line)), "")
+    return f"(only since a proof names what the edit took away) {reasons[0][2][:160]}" if reasons and not first else first[:160]
+
+
+def told_of(names, texts, told):
+    """Returns those of the reasons that are of some functions: of each the file, which has its text here, and the name. A
+    reason may stand at an attribute above its function. The proof of a method stands with its type, which may be in
+    another module: if there is no reason in the file or beside it, those of all proofs of that name are returned."""
+    lines, folders = set(), []
+    for path, name in names:
+        folders.append(("proofs/" + (module_of(path) or "").replace("::", "/"), f"/{name}/"))
+        for other, _, start, end in functions_in(texts[path]):
+            if other == name:
+                first, above = texts[path].count("\n", 0, start) + 1, texts[path][:start].split("\n")[:-1]
+                while above and above[-1].lstrip().startswith("#["):
+                    above.pop()
+                lines |= {(path, line) for line in range(len(above) + 1, first + texts[path].count("\n", start, end) + 1)}
+    return [it for it in told if (it[0], it[1]) in lines
+            or any(it[0].startswith(folder) and name in it[0] for folder, name in folders)] or [
+        it for it in told if it[0].startswith("proofs/") and any(name in it[0] for _, name in folders)]

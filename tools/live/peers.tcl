@@ -1,0 +1,114 @@
+# Runs redis' own tests of streams against a server that runs already, each case by itself and over connections of its own.
+# tools/live/peers calls it.
+#
+# usage: tclsh peers.tcl SOURCE HOST PORT 'COMMAND ..' FILE..
+#
+# SOURCE is redis' source. A case that sends one of the commands is left out, and so is one that starts a server of its
+# own. If CONFIG is one of them, the size of nodes is not set, and a case is left out only if its size counts: with ~ as it
+# trims, and another size than 100. A line for each case: 'pass', 'fail' or 'left out', its name, and what went wrong or why it is left out, between
+# tabs.
+lassign $argv source host port wanting
+set files [lrange $argv 4 end]
+cd $source
+source tests/support/redis.tcl
+source tests/support/util.tcl
+source tests/support/test.tcl
+
+proc said {outcome name {why ""}} {
+    puts "$outcome\t[string map {\n " " \r " " \t " "} $name]\t[string map {\n " " \r " " \t " "} [string range $why 0 199]]"
+    flush stdout
+}
+
+proc connected {deferred} {
+    set one [redis $::host $::port $deferred 0]
+    lappend ::connections $one
+    return $one
+}
+proc begin_anew {} {
+    foreach one $::connections { catch {$one close} }
+    set ::connections {}
+    set ::client [connected 0]
+}
+set connections {}
+begin_anew
+
+# A client whose replies are read later. A read with BLOCK is given time to begin its wait, before another client goes on.
+proc deferred {one args} {
+    set blocks [expr {[lsearch -nocase $args block] >= 0}]
+    if {$blocks} { set before [s blocked_clients] }
+    set result [uplevel 1 [list $one {*}$args]]
+    for {set turn 0} {$blocks && $turn < 12 && [s blocked_clients] <= $before} {incr turn} { after 25 }
+    return $result
+}
+
+# What the tests call.
+proc redis_client {args} { connected 0 }
+proc redis_deferring_client {args} {
+    set one [connected 1]
+    interp alias {} deferred_$one {} deferred $one
+    return deferred_$one
+}
+proc srv {args} { expr {[lindex $args end] eq "client" ? $::client : 0} }
+proc r {args} {
+    if {[string is integer -strict [lindex $args 0]]} { set args [lrange $args 1 end] }
+    if {"CONFIG" in $::wanting && [lrange $args 0 2] eq $::size} { return OK }
+    $::client {*}$args
+}
+proc s {args} { getInfoProperty [$::client info] [lindex $args end] }
+proc wait_for_blocked_client {args} { wait_for_blocked_clients_count 1 }
+proc wait_for_blocked_clients_count {count args} {
+    for {set turn 0} {$turn < 40} {incr turn} {
+        if {[s blocked_clients] == $count} { return }
+        after 25
+    }
+    error "no client waits"
+}
+
+set size {config set stream-node-max-entries}
+
+# Which of the commands that the server has not this code sends, itself or by a procedure of the tests.
+proc wants {code} {
+    set found {}
+    if {[string first ~ $code] < 0} { regsub -all "$::size \\d+" $code "" code }
+    regsub -all "$::size 100\\M" $code "" code
+    foreach name [info procs] {
+        if {$name ni $::here && [regexp "\\m$name\\M" $code]} { append code "\n" [info body $name] }
+    }
+    foreach {_ word} [regexp -all -inline {(?:\mr|\$r\w*)\s+([A-Za-z]+)} $code] {
+        set word [string toupper $word]
+        if {$word in $::wanting && $word ni $found} { lappend found $word }
+    }
+    return $found
+}
+
+proc start_server {options code} {
+    array set given [concat {tags {} overrides {}} $options]
+    if {[string match *external:skip* $given(tags)]} {
+        set why "starts a server of its own"
+    } elseif {$given(overrides) ne {} && [string match *needs:debug* $given(tags)]} {
+        set why "sends DEBUG to a server with settings of its own"
+    } else {
+        catch {$::client flushall}
+        return [uplevel 1 $code]
+    }
+    foreach {_ braced quoted} [regexp -all -inline {\mtest (?:\{([^\n]*?)\}|"([^\n]*?)") \{} $code] {
+        said "left out" $braced$quoted $why
+    }
+}
+
+proc test {name code {wanted undefined} {tags {}}} {
+    set missing [wants $code]
+    if {[string match *external:skip* $tags]} { return [said "left out" $name "is for a server that the suite starts"] }
+    if {$missing ne {}} { return [said "left out" $name "sends [join $missing {, }]"] }
+    if {[catch {uplevel 1 $code} result]} {
+        said fail $name $result
+    } elseif {$wanted ne "undefined" && $wanted ne $result && ![string match $wanted $result]} {
+        said fail $name "wanted '$wanted', got '$result'"
+    } else {
+        said pass $name
+    }
+    begin_anew
+}
+
+set here [info procs]
+foreach file $files { source tests/unit/type/$file }
