@@ -1,13 +1,13 @@
 -- The talk after an entry.
-use Rattle.std.proofs.Common.{◌≡◌, ◌≢◌, ◌∙◌, ◌==◌, refl, sym, ap, subst, ℕ, Bool, true, false, true≢false, List, [], ◌∷◌, ◌++◌}
-use Rattle.std.proofs.Common.{Option, Some, None, if◌then◌else◌, append_assoc, option_map}
+use Rattle.std.proofs.Common.{◌≡◌, ◌∙◌, ◌==◌, refl, sym, ap, subst, ℕ, Bool, true, false, List, [], ◌∷◌, ◌++◌}
+use Rattle.std.proofs.Common.{Option, Some, None, if◌then◌else◌, option_map}
 use Rattle.std.specs.Io.KnownBytes.{Appends, Consumes, append_known}
-use Rattle.std.proofs.lemmas.Bool.{eqb-true, eqb-false, eq-eqb}
+use Rattle.std.proofs.lemmas.Bool.{eqb-true, eqb-false}
 use Rattle.model_server.specs.Group.Worker.{Entry, Verdict, done, left_pending, stop}
 use Rattle.stream_in_place.specs.Sent.{Pairs}
 use Rattle.worker_jobs.specs.LineOf.{line_of}
 use Rattle.worker_jobs.specs.Lines.{HasNoEnd}
-use Rattle.worker_jobs.specs.Talk.{Exchanges, Pipes, Talk, by_line, by_reply, ended, first_line, goes_on, over, replied, talk_of, talked, wrong}
+use Rattle.worker_jobs.specs.Talk.{Exchanges, Pipes, by_line, by_reply, ended, first_line, goes_on, replied, talk_of, talked}
 use Rattle.worker_jobs.specs.VerdictOf.{verdict_of}
 use Rattle.worker_jobs.specs.declared.reply.Reply.{Reply}
 use Rattle.worker_jobs.specs.declared.reply.Reply.TheVariants.{Done, Later, Dead, Stop}

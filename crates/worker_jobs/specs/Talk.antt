@@ -1,5 +1,5 @@
 -- The talk between a handler and its child.
-use Rattle.std.specs.Prelude.{◌≡◌, ◌==◌, ℕ, List, [], ◌∷◌, ◌++◌, Bool, true, false, Option, Some, None, if◌then◌else◌, option_map}
+use Rattle.std.specs.Prelude.{◌==◌, ℕ, List, [], ◌∷◌, ◌++◌, Bool, true, false, Option, Some, None, if◌then◌else◌, option_map}
 use Rattle.std.specs.Io.KnownBytes.{Appends, Consumes, append_known}
 use Rattle.model_server.specs.Group.Worker.{Entry, Verdict, done, left_pending, stop}
 use Rattle.stream_in_place.specs.Sent.{Pairs}
@@ -7,7 +7,7 @@ use Rattle.worker_jobs.specs.LineOf.{line_of}
 use Rattle.worker_jobs.specs.Lines.{HasNoEnd}
 use Rattle.worker_jobs.specs.VerdictOf.{verdict_of}
 use Rattle.worker_jobs.specs.declared.reply.Reply.{Reply}
-use Rattle.worker_jobs.specs.declared.reply.Reply.TheVariants.{Done, Later, Dead, Stop}
+use Rattle.worker_jobs.specs.declared.reply.Reply.TheVariants.{Done, Later, Dead}
 
 -- the stream of the entries, the bytes sent to the child, and those that it will reply, each if it is known
 pub record Pipes : Type 0 where

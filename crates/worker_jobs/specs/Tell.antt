@@ -1,6 +1,5 @@
 -- A line determines its entry.
-use Rattle.std.specs.Prelude.{◌≡◌, ◌≢◌, List, ℕ}
-use Rattle.std.specs.List.{AllByRecursion}
+use Rattle.std.specs.Prelude.{◌≡◌, List, ℕ}
 use Rattle.worker_jobs.specs.EntryJson.Fields.{AreOfBytes}
 use Rattle.model_server.specs.Group.Worker.{Entry}
 use Rattle.stream_in_place.specs.Sent.{Pairs}

@@ -1,5 +1,5 @@
 -- The reply of a child to an entry.
-use Rattle.std.specs.Prelude.{ℕ, List, [], ◌∷◌, ◌==◌, ◌||◌, Bool, true, false, Option, Some, None, if◌then◌else◌, codes, length, map, take}
+use Rattle.std.specs.Prelude.{ℕ, List, [], ◌∷◌, ◌==◌, ◌||◌, Bool, Option, Some, None, if◌then◌else◌, codes, length, map, take}
 use Rattle.std.specs.Str.{bytes_eq}
 use Rattle.worker_jobs.specs.Added.{Added, added_bytes, entries_of_line}
 use Rattle.worker_jobs.specs.declared.reply.Reply.{Reply}

@@ -1,7 +1,6 @@
 -- The tokens of fields tell the fields.
 use Rattle.std.proofs.Common.{◌≡◌, ◌<◌, ℕ, zero, suc, Bool, true, false, List, [], ◌∷◌, ◌++◌, flat_map, slice_index, refl, sym}
 use Rattle.std.proofs.Common.{◌∙◌, ap, ap₂, arith, append_assoc, if◌then◌else◌}
-use Rattle.std.specs.List.{AllByRecursion}
 use Rattle.std.specs.Str.{is_utf8}
 use Rattle.std.proofs.lemmas.Bool.{true≢false}
 use Rattle.base64.proofs.RoundTrip.{decode-encode}
