@@ -71,10 +71,11 @@ class Added(OfJobs):
         self.add(("done", 0), (RESULTS, 9), ("done", 0))
         said = self.said("--retry", "0", status=1)
         self.assertRegex(said, r"Error: .*WRONGTYPE")
-        self.assertEqual((len(self.fields("results")), self.pending()), (1, 3))
+        # (all are sent in one write: the one after it may be added too)
+        self.assertEqual((len(self.fields("results")) in (1, 2), self.pending()), (True, 3))
         self.server.ask("DEL", "log")
         self.said()
-        self.assertEqual((len(self.fields("results")), len(self.fields("log")), self.pending()), (3, 1, 0))
+        self.assertEqual((len(self.fields("results")) in (3, 4), len(self.fields("log")), self.pending()), (True, 1, 0))
 
     def test_a_line_of_json_of_another_form(self):
         self.add(("done", 0), ('{"done":true,"add":[["results",{}]]}', 99), ("done", 0))
