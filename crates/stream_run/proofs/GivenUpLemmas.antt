@@ -3,7 +3,7 @@ use Rattle.std.proofs.Common.{◌≡◌, ◌++◌, ◌∷◌, [], refl, sym, sub
 use Rattle.redis_connection.specs.Link.{Link}
 use Rattle.stream_run.specs.GivenUp.{GivesUpDead, GivesUpEach, GivesUpIf}
 use Rattle.worker.proofs.DeadLettersLemmas.BesidesLemmas.{besides_both, now_besides}
-use Rattle.worker.specs.DeadLetters.Besides.{Besides, nothing}
+use Rattle.worker.specs.DeadLetters.Besides.{Besides, GivesUpNow, nothing}
 use Rattle.worker.specs.DeadLetters.Dead.{Claimer}
 use Rattle.worker.specs.Letters.{Names}
 use Rattle.worker_jobs.specs.declared.jobs.Note.{Note}
@@ -30,3 +30,12 @@ pub each_more : (p : Claimer × Names) (notes : List Note) (note : Note) (l m n 
     → GivesUpIf note.dead p note m n → GivesUpEach p (notes ++ note ∷ []) l n
 each_more p [] note l m n a b = (n, subst (λ x. GivesUpIf note.dead p note x n) a b, refl)
 each_more p (x ∷ notes) note l m n a b = (a.0, a.1, each_more p notes note a.0 m n a.2 b)
+
+-- the entry of a note whose reply was `dead` was given up
+pub when_dead : (p : Claimer × Names) (note : Note) (l m : Link) → note.dead ≡ true
+    → GivesUpNow p.0 p.1 (string_bytes note.id) note.text.items l m → GivesUpIf note.dead p note l m
+when_dead p note l m dead gives = subst (λ d. GivesUpIf d p note l m) (sym dead) gives
+
+-- nothing was sent for another note
+pub when_left : (p : Claimer × Names) (note : Note) (l : Link) → note.dead ≡ false → GivesUpIf note.dead p note l l
+when_left p note l left = subst (λ d. GivesUpIf d p note l l) (sym left) refl
