@@ -1,5 +1,5 @@
 //! What `WATCH` remembers of a key.
-ghost use Rattle.std.specs.Prelude.{◌≡◌};
+ghost use Rattle.std.specs.Prelude.{◌≡◌, IfOk, length};
 ghost use Rattle.std.specs.List.{list_any};
 ghost use Rattle.server_commands.specs.Watching.{has_key, is_changed, is_still, is_touched};
 
@@ -28,7 +28,9 @@ pub(crate) fn note_all(
     alloc: Global,
     streams: &[Stream],
     keys: &[Vec<u8>],
-) -> Result<Vec<Watched>, AllocError> {
+) -> Result<Vec<Watched>, AllocError>
+    ensures { IfOk result (λ list. length list.items ≡ length keys.now) }
+{
     let mut list = Vec::with_capacity(alloc, keys.len())?;
     for key in keys {
         list.push(Watched {
