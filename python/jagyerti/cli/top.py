@@ -77,9 +77,9 @@ def serve(plan: Plan, text: str) -> int:
         raise Failed(f"--listen {error}", USAGE) from None
     with monitor.listen(plan, place, lambda reason: say("top", reason)) as server:
         host = f"[{place[0]}]" if ":" in place[0] else place[0]
-        print(f"http://{host}:{server.server_address[1]}/metrics", flush=True)
         for number in (signal.SIGTERM, signal.SIGINT):
             signal.signal(number, lambda *_: threading.Thread(target=server.shutdown).start())
+        print(f"http://{host}:{server.server_address[1]}/metrics", flush=True)
         server.serve_forever(TICK)
     return 0
 
