@@ -1,4 +1,5 @@
 -- The proofs of this crate, by subject.
+pub mod BothEndsLemmas
 pub mod FailoverLemmas
 pub mod FilesLemmas
 pub mod LetterLemmas

@@ -1,4 +1,5 @@
 -- The definitions of this crate, by subject.
+pub mod BothEnds
 pub mod Failover
 pub mod Files
 pub mod Letters

@@ -2,6 +2,7 @@
 //! functions are laws, and two calls of the journal whose contracts refer to the machine.
 #![tactic(auto)]
 
+pub mod both_ends;
 pub mod failover;
 pub mod files;
 pub mod letters;

@@ -1,7 +1,7 @@
 -- The lines that are read from a buffer.
 use Rattle.std.specs.Prelude.{◌≡◌, ◌≢◌, ℕ, List, [], ◌∷◌, ◌++◌, Contains, Vec}
 use Rattle.std.specs.declared.alloc.Global.{Global}
-use Rattle.worker_producer.specs.Records.{arguments_of}
+use Rattle.worker_producer.specs.Records.{fields_of}
 use Rattle.stream_fill.specs.declared.lines.Form.{Form}
 use Rattle.stream_fill.specs.declared.lines.Form.TheVariants as forms
 
@@ -18,7 +18,7 @@ BeginsWith bytes (l ∷ ls) rest =
 -- the record of a line: a text gives one field. The fields of a JSON line are not stated
 abbrev pub IsRecordOf : Form → List ℕ → Record → Type 0
 IsRecordOf forms.Json line r = r.items ≢ []
-IsRecordOf (forms.Text name) line r = arguments_of r ≡ name.items ∷ line ∷ []
+IsRecordOf (forms.Text name) line r = fields_of r ≡ (name.items, line) ∷ []
 
 -- the same of each of these and its line
 abbrev pub AreRecordsOf : Form → List (List ℕ) → List Record → Type 0

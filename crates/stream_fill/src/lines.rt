@@ -1,6 +1,6 @@
 //! A file of lines as a source of records.
 ghost use Rattle.std.specs.Prelude.{◌≡◌, [], ◌∷◌, None, IfOk};
-ghost use Rattle.worker_producer.specs.Records.{arguments_of};
+ghost use Rattle.worker_producer.specs.Records.{fields_of};
 ghost use Rattle.stream_fill.specs.Taken.{IsRecordOf, TakesLines};
 
 use crate::json_records::record_of_json;
@@ -303,7 +303,7 @@ fn parse_record(
 
 /// A record of one field.
 fn make_text_record(alloc: Global, name: &Vec<u8>, value: &[u8]) -> Result<Record, AllocError>
-    ensures { IfOk result (λ r. arguments_of r ≡ name.now.items ∷ value.now ∷ []) }
+    ensures { IfOk result (λ r. fields_of r ≡ (name.now.items, value.now) ∷ []) }
 {
     let mut record = Vec::with_capacity(alloc, 1)?;
     record.push((name.clone()?, Vec::from_slice(alloc, value)?))?;

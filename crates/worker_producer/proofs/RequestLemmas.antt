@@ -13,7 +13,7 @@ use Rattle.model_server.specs.Once.Feed as feed
 use Rattle.model_server.specs.Once.Feed.{Numbered, numbered, asking, knows, waits}
 use Rattle.worker_producer.specs.Machine.{Asks, AsksNone, RequestedAt, Sends, Sent, Standing, Unrequested, Unsent, next_batch}
 use Rattle.worker_producer.specs.Machine.{stage_of, standing_of}
-use Rattle.worker_producer.specs.Records.{AreAll, Fields, arguments_of_field}
+use Rattle.worker_producer.specs.Records.{AreAll, Fields, arguments_of, field_of}
 use Rattle.worker_producer.specs.Sentences.{add_sentence, adds_bytes, ask_bytes, batch_bytes, head_of, own_id}
 use Rattle.worker_producer.specs.declared.error.RequestError.{RequestError}
 use Rattle.worker_producer.specs.declared.error.RequestError.TheVariants as causes
@@ -52,7 +52,7 @@ argument_written i words word out new all h e b inv =
 
 -- the fields of a record are two arguments each
 pub arguments_counted : (fs : List (Vec ℕ Global × Vec ℕ Global))
-    → length (flat_map arguments_of_field fs) ≡ 2 * length fs
+    → length (arguments_of (map field_of fs)) ≡ 2 * length fs
 arguments_counted [] = refl
 arguments_counted (f ∷ fs) =
     let rest = arguments_counted fs in
@@ -62,24 +62,26 @@ arguments_counted (f ∷ fs) =
 pub field_written : (i : ℕ) (fs : List (Vec ℕ Global × Vec ℕ Global)) (f : Vec ℕ Global × Vec ℕ Global)
     (out new all : List ℕ) → i < length fs → f ≡ get_or fs i f
     → new ≡ out ++ (bulk_bytes f.0.items ++ bulk_bytes f.1.items)
-    → out ++ flat_map bulk_bytes (flat_map arguments_of_field (drop i fs)) ≡ all
-    → new ++ flat_map bulk_bytes (flat_map arguments_of_field (drop (i + 1) fs)) ≡ all
+    → out ++ flat_map bulk_bytes (arguments_of (map field_of (drop i fs))) ≡ all
+    → new ++ flat_map bulk_bytes (arguments_of (map field_of (drop (i + 1) fs))) ≡ all
 field_written i fs f out new all h e b inv =
     let d : drop i fs ≡ f ∷ drop (i + 1) fs =
     drop-cons fs i f h ∙ (ap (λ y. y ∷ drop (suc i) fs) (sym e) ∙ ap (λ (j : ℕ). f ∷ drop j fs) (sym (add-one i))) in
-    let r : List ℕ = flat_map bulk_bytes (flat_map arguments_of_field (drop (i + 1) fs)) in
+    let r : List ℕ = flat_map bulk_bytes (arguments_of (map field_of (drop (i + 1) fs))) in
     ap (λ o. o ++ r) b
     ∙ (append_assoc out (bulk_bytes f.0.items ++ bulk_bytes f.1.items) r
     ∙ (ap (λ bs. out ++ bs) (append_assoc (bulk_bytes f.0.items) (bulk_bytes f.1.items) r)
-    ∙ (ap (λ ys. out ++ flat_map bulk_bytes (flat_map arguments_of_field ys)) (sym d) ∙ inv)))
+    ∙ (ap (λ ys. out ++ flat_map bulk_bytes (arguments_of (map field_of ys))) (sym d) ∙ inv)))
 
 -- a record is written in parts: how many arguments there are, those before the id, the id, and the fields
-pub in_parts : (head : List (List ℕ)) (count : ℕ) (front : List ℕ) (n : ℕ) (args : List (List ℕ))
+pub in_parts : (head : List (List ℕ)) (count : ℕ) (front : List ℕ) (n : ℕ) (fields : Fields)
     → count ≡ length (codes "XADD" ∷ head) → front ≡ flat_map bulk_bytes (codes "XADD" ∷ head)
-    → head_bytes (count + 1 + length args) ++ (front ++ (bulk_bytes (own_id n) ++ flat_map bulk_bytes args))
-    ≡ command_bytes (add_sentence head ((n, 0), args))
+    → head_bytes (count + 1 + length (arguments_of fields))
+    ++ (front ++ (bulk_bytes (own_id n) ++ flat_map bulk_bytes (arguments_of fields)))
+    ≡ command_bytes (add_sentence head ((n, 0), fields))
 unfolding command_bytes
-in_parts head count front n args counted e =
+in_parts head count front n fields counted e =
+    let args : List (List ℕ) = arguments_of fields in
     let words : List (List ℕ) = codes "XADD" ∷ head in
     let rest : List (List ℕ) = own_id n ∷ args in
     let all : count + 1 + length args ≡ length (words ++ rest) =

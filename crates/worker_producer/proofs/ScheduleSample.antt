@@ -17,7 +17,7 @@ use Rattle.worker_producer.proofs.ScheduleLemmas.{told_records_are_sent, asking_
 
 -- the producer adds one record
 abbrev one : Setting Fields
-one = record { records = (codes "a" ∷ codes "b" ∷ []) ∷ []; base = 0; name = codes "ann" }
+one = record { records = ((codes "a", codes "b") ∷ []) ∷ []; base = 0; name = codes "ann" }
 
 it_fits : Fit one
 it_fits = omega arith

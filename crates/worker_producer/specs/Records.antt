@@ -1,19 +1,23 @@
--- Records as arguments.
-use Rattle.std.specs.Prelude.{◌≡◌, ℕ, List, [], ◌∷◌, Option, Some, None, Vec}
+-- Records, and their arguments.
+use Rattle.std.specs.Prelude.{◌≡◌, ℕ, List, [], ◌∷◌, map, Option, Some, None, Vec}
 use Rattle.std.specs.List.{flat_map}
 use Rattle.std.specs.declared.alloc.Global.{Global}
 
--- a record: its fields as arguments, a name and its value in turn
+-- a record: its names and values, in order
 abbrev pub Fields : Type 0
-Fields = List (List ℕ)
+Fields = List (List ℕ × List ℕ)
 
--- the arguments of a field
-abbrev pub arguments_of_field : Vec ℕ Global × Vec ℕ Global → List (List ℕ)
-arguments_of_field field = field.0.items ∷ field.1.items ∷ []
+-- a field of the code: its name and its value
+abbrev pub field_of : Vec ℕ Global × Vec ℕ Global → List ℕ × List ℕ
+field_of field = (field.0.items, field.1.items)
 
--- the arguments of a record
-abbrev pub arguments_of : Vec (Vec ℕ Global × Vec ℕ Global) Global → Fields
-arguments_of record_of = flat_map arguments_of_field record_of.items
+-- a record of the code
+abbrev pub fields_of : Vec (Vec ℕ Global × Vec ℕ Global) Global → Fields
+fields_of record_of = map field_of record_of.items
+
+-- the arguments of XADD after the id: each name and its value in turn
+abbrev pub arguments_of : Fields → List (List ℕ)
+arguments_of fields = flat_map (λ field. field.0 ∷ field.1 ∷ []) fields
 
 -- these are all records, if they are known
 abbrev pub AreAll : Option (List Fields) → List Fields → Type 0

@@ -6,7 +6,7 @@ use Rattle.model_server.specs.Group.Group.{id_text}
 use Rattle.model_server.specs.Once.Feed.{Numbered}
 use Rattle.stream_options.specs.Trim.{strategy_sentence}
 use Rattle.stream_options.specs.View.{strategy_of}
-use Rattle.worker_producer.specs.Records.{Fields}
+use Rattle.worker_producer.specs.Records.{Fields, arguments_of}
 use Rattle.worker_producer.specs.declared.settings.Settings.{Settings}
 
 -- `XINFO STREAM key`, as bytes
@@ -23,7 +23,7 @@ head_of s = string_bytes s.key ∷ clause strategy_sentence (option_map strategy
 
 -- `XADD key [trimming] id field value ..`
 abbrev pub add_sentence : List (List ℕ) → Numbered Fields → List (List ℕ)
-add_sentence head r = codes "XADD" ∷ (head ++ id_text r.0 ∷ r.1)
+add_sentence head r = codes "XADD" ∷ (head ++ id_text r.0 ∷ arguments_of r.1)
 
 -- XADD of each record, as bytes
 abbrev pub adds_bytes : List (List ℕ) → List (Numbered Fields) → List ℕ

@@ -2,7 +2,7 @@
 ghost use Rattle.std.specs.Prelude.{◌≡◌, ◌≢◌, ◌+◌, ◌<◌, ◌^◌, ◌*◌, ◌++◌, ◌∷◌, [], IfOk, OnOk, OnErr, codes, length, map};
 ghost use Rattle.std.specs.List.{flat_map};
 ghost use Rattle.redis_wire.specs.Packed.{bulk_bytes, command_bytes, head_bytes};
-ghost use Rattle.worker_producer.specs.Records.{arguments_of, arguments_of_field};
+ghost use Rattle.worker_producer.specs.Records.{arguments_of, field_of, fields_of};
 ghost use Rattle.worker_producer.specs.Sentences.{adds_bytes, ask_bytes, batch_bytes, head_of, own_id};
 ghost use Rattle.model_server.specs.Once.Feed.{numbered};
 
@@ -32,7 +32,7 @@ pub fn append_batch(
 ) -> Result<(), WriteError>
     requires { before + length records.now < 2 ^ 64 }
     ensures ok { OnOk result (out.new.items ≡ out.old.items
-        ++ batch_bytes (head_of settings.now) (numbered before (map arguments_of records.now))) }
+        ++ batch_bytes (head_of settings.now) (numbered before (map fields_of records.now))) }
     ensures err { OnErr result (out.new.items ≡ out.old.items) }
 {
     let mut bytes = Vec::new(alloc);
@@ -53,7 +53,7 @@ fn append_records(
 ) -> Result<(), WriteError>
     requires { before + length records.now < 2 ^ 64 }
     ensures { OnOk result (out.new.items ≡ out.old.items
-        ++ adds_bytes (head_of settings.now) (numbered before (map arguments_of records.now))) }
+        ++ adds_bytes (head_of settings.now) (numbered before (map fields_of records.now))) }
 {
     let front = build_front(alloc, settings)?;
     let mut id = Vec::new(alloc);
@@ -108,9 +108,9 @@ fn append_record(
     fields: &Record,
 ) -> Result<(), WriteError>
     ensures { OnOk result (out.new.items ≡ out.old.items
-        ++ (head_bytes (front.now.count + 1 + length (arguments_of fields.now))
+        ++ (head_bytes (front.now.count + 1 + length (arguments_of (fields_of fields.now)))
         ++ (front.now.bytes.items
-        ++ (bulk_bytes (own_id number) ++ flat_map bulk_bytes (arguments_of fields.now))))) }
+        ++ (bulk_bytes (own_id number) ++ flat_map bulk_bytes (arguments_of (fields_of fields.now)))))) }
 {
     let fields = fields.as_slice();
     append_head(out, front.count, fields.len())?;
@@ -153,7 +153,7 @@ fn write_id(id: &mut Vec<u8>, number: u64) -> Result<(), AllocError>
 /// Appends the names and values of fields.
 fn append_fields(out: &mut Vec<u8>, fields: &[Field]) -> Result<(), WriteError>
     ensures { OnOk result (out.new.items ≡ out.old.items
-        ++ flat_map bulk_bytes (flat_map arguments_of_field fields.now)) }
+        ++ flat_map bulk_bytes (arguments_of (map field_of fields.now))) }
 {
     for field in fields {
         append_field(out, field)?;

@@ -1,13 +1,13 @@
 //! Records in memory.
 ghost use Rattle.std.specs.Prelude.{◌≡◌, IfOk, Some, drop, map, take};
-ghost use Rattle.worker_producer.specs.Records.{arguments_of, arguments_of_field};
+ghost use Rattle.worker_producer.specs.Records.{field_of, fields_of};
 
 use crate::source::{Field, NotRead, Record, Source};
 use std::alloc::{AllocError, Global};
 
 /// Records in memory. A read fails if there is no memory for the copies.
 impl Source for Vec<Record> {
-    ghost records = { λ kept. Some (map arguments_of kept.items) };
+    ghost records = { λ kept. Some (map fields_of kept.items) };
 
     fn read(&mut self, alloc: Global, behind: u64, most: usize) -> Result<Vec<Record>, NotRead> {
         match copy_records(alloc, part_of(self, behind, most)) {
@@ -37,7 +37,7 @@ fn part_of(records: &[Record], behind: u64, most: usize) -> &[Record]
 
 /// Copies records.
 fn copy_records(alloc: Global, records: &[Record]) -> Result<Vec<Record>, AllocError>
-    ensures { IfOk result (λ copies. map arguments_of copies.items ≡ map arguments_of records.now) }
+    ensures { IfOk result (λ copies. map fields_of copies.items ≡ map fields_of records.now) }
 {
     let mut copies = Vec::new(alloc);
     for original in records {
@@ -48,7 +48,7 @@ fn copy_records(alloc: Global, records: &[Record]) -> Result<Vec<Record>, AllocE
 
 /// Copies a record.
 fn copy_record(alloc: Global, original: &Record) -> Result<Record, AllocError>
-    ensures { IfOk result (λ copy. arguments_of copy ≡ arguments_of original.now) }
+    ensures { IfOk result (λ copy. fields_of copy ≡ fields_of original.now) }
 {
     let mut copy = Vec::new(alloc);
     for field in original {
@@ -59,7 +59,7 @@ fn copy_record(alloc: Global, original: &Record) -> Result<Record, AllocError>
 
 /// Copies a field.
 fn copy_field(field: &Field) -> Result<Field, AllocError>
-    ensures { IfOk result (λ copy. arguments_of_field copy ≡ arguments_of_field field.now) }
+    ensures { IfOk result (λ copy. field_of copy ≡ field_of field.now) }
 {
     Ok((field.0.clone()?, field.1.clone()?))
 }

@@ -5,7 +5,7 @@ ghost use Rattle.redis_wire.specs.Reply.{answer};
 ghost use Rattle.worker_producer.specs.Learnt.{Learns, Took, Unlearnt, Untaken};
 ghost use Rattle.worker_producer.specs.Machine.{Asks, AsksNone, Sends, Sent, Unsent, idle};
 ghost use Rattle.worker_producer.specs.Machine.{stage_of, standing_of};
-ghost use Rattle.worker_producer.specs.Records.{arguments_of};
+ghost use Rattle.worker_producer.specs.Records.{fields_of};
 ghost use Rattle.worker_producer.specs.Replies.{is_executed};
 ghost use Rattle.worker_producer.specs.Sentences.{ask_bytes, batch_bytes, head_of};
 ghost use Rattle.worker_producer.specs.Unheard.{IsCause, IsNoError, IsUnexecuted};
@@ -167,7 +167,7 @@ impl Producer {
         requires stage { self.old.stage ≡ Stage.Knows known }
         requires coming { self.old.coming ≡ 0 }
         ensures ok { IfOk result (Sent self.old.settings
-            (numbered (self.old.settings.base + known) (map arguments_of records.now))
+            (numbered (self.old.settings.base + known) (map fields_of records.now))
             out.old.items out.new.items (knows known) (standing_of self.new)) }
         ensures err { IfErr result (Unsent (self.old.settings.base + known + length records.now)) }
         ensures err_bytes { OnErr result (out.new.items ≡ out.old.items) }
@@ -190,7 +190,7 @@ impl Producer {
     ) -> Result<Asked, RequestError>
         ensures bytes { OnOk result (out.new.items
             ≡ out.old.items ++ batch_bytes (head_of self.old.settings)
-            (numbered (self.old.settings.base + known) (map arguments_of records.now))) }
+            (numbered (self.old.settings.base + known) (map fields_of records.now))) }
         ensures standing { OnOk result (standing_of self.new ≡ record {
           stage = waits known (length records.now);
           coming = length records.now + 2;

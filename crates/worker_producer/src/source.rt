@@ -1,6 +1,6 @@
 //! The source of records.
 ghost use Rattle.std.specs.Prelude.{◌≡◌, ◌≤◌, ℕ, List, Option, IfOk, IfSome, drop, length, map, take};
-ghost use Rattle.worker_producer.specs.Records.{arguments_of};
+ghost use Rattle.worker_producer.specs.Records.{fields_of};
 
 use std::alloc::Global;
 use thiserror::Error;
@@ -18,14 +18,14 @@ pub struct NotRead;
 
 /// Records that can be read again from a number on, as lines of a file can.
 pub trait Source {
-    /// All records in order, each as the arguments of XADD after the id, if they are known: no contract can give the
-    /// content of a file.
-    ghost records: { Self → Option (List (List (List ℕ))) };
+    /// All records in order, each as its names and values, if they are known: no contract can give the content of a
+    /// file.
+    ghost records: { Self → Option (List (List (List ℕ × List ℕ))) };
 
     /// Returns the records after the first `behind` ones, in order, at most `most` of them; an empty list if there are
     /// none.
     fn read(&mut self, alloc: Global, behind: u64, most: usize) -> Result<Vec<Record>, NotRead>
-        ensures ok { IfOk result (λ rs. IfSome (records self.old) (λ all. map arguments_of rs.items
+        ensures ok { IfOk result (λ rs. IfSome (records self.old) (λ all. map fields_of rs.items
             ≡ take most (drop behind all))) }
         ensures most { IfOk result (λ rs. length rs.items ≤ most) }
         ensures same { records self.new ≡ records self.old };

@@ -124,12 +124,12 @@ module _ (s : Setting Fields) where
   -- ---- a request
 
   -- it requests entries only if all that it did is committed
-  abbrev Ready : (to_commit to_acknowledge : List Id) → Type 0
+  abbrev pub Ready : (to_commit to_acknowledge : List Id) → Type 0
   Ready [] acks = Unit {0}
   Ready (i ∷ ids) [] = ⊥
   Ready (i ∷ ids) (j ∷ js) = Unit {0}
 
-  is_ready : (every : ℕ) (phase : Phase) (to_commit to_acknowledge : List Id)
+  pub is_ready : (every : ℕ) (phase : Phase) (to_commit to_acknowledge : List Id)
       → Ready (at_request (machine_with every phase to_commit to_acknowledge)).to_commit
       (at_request (machine_with every phase to_commit to_acknowledge)).to_acknowledge
   is_ready every phase [] [] = tt

@@ -1,5 +1,6 @@
 -- The search for entries that are given up, over a connection: none is acknowledged before the reply to its letter.
-use Rattle.std.specs.Prelude.{◌≡◌, ◌≢◌, ◌⊎◌, ℕ, zero, suc, Bool, true, false, filter, if◌then◌else◌, nat_le, List, [], ◌∷◌, ◌++◌, map, Option, Some}
+use Rattle.std.specs.Prelude.{◌≡◌, ◌≢◌, ◌<◌, ◌≤◌, ◌+◌, ◌⊎◌, ℕ, zero, suc, Bool, true, false, filter, if◌then◌else◌, nat_le, List, [], ◌∷◌}
+use Rattle.std.specs.Prelude.{◌++◌, length, map, Option, None, Some}
 use Rattle.std.specs.Prelude.{option_map, codes, decimal, String, Vec, string_bytes}
 use Rattle.std.specs.declared.alloc.Global.{Global}
 use Rattle.redis_args.specs.declared.raw_bytes.RawBytes.{RawBytes}
@@ -21,6 +22,8 @@ use Rattle.worker.specs.declared.dead_letters.search.GiveUp.{GiveUp}
 use Rattle.worker.specs.declared.dead_letters.search.Waiting.{Waiting}
 use Rattle.worker.specs.declared.dead_letters.error.SearchSettingsError.{SearchSettingsError}
 use Rattle.worker.specs.declared.dead_letters.error.SearchSettingsError.TheVariants.{NoDeliveries, NoStream, SameStream, Memory}
+use Rattle.worker.specs.declared.state.Asked.{Asked}
+use Rattle.worker.specs.declared.state.Asked.TheVariants.{New}
 use Rattle.worker.specs.Letters.{Names, letter_for, words_of}
 use Rattle.worker.specs.Letters.{Desk, after_letter, letter_asks, letter_bytes, serves}
 
@@ -64,14 +67,6 @@ ReadsPage old new words page = ((rows : List PendingRow) × Asks old new words p
     ⊎ ((a : Answer) × (text : List ℕ) × Exchanges old new words a × (first_error a ≡ Some text)
     × (code_of text ≡ codes "NOGROUP") × (page ≡ []))
 
--- `XPENDING key group start + 100 consumer` for own entries, and for those of all consumers
--- `XPENDING key group IDLE min-idle start + 100`
-abbrev pub page_words : DeadLetterSearch → Bool → List ℕ → List (List ℕ)
-page_words d true start = codes "XPENDING" ∷ string_bytes d.key ∷ string_bytes d.group ∷ start ∷ codes "+"
-    ∷ decimal 100 ∷ string_bytes d.consumer ∷ []
-page_words d false start = codes "XPENDING" ∷ string_bytes d.key ∷ string_bytes d.group ∷ codes "IDLE"
-    ∷ decimal d.min_idle ∷ start ∷ codes "+" ∷ decimal 100 ∷ []
-
 -- `XPENDING key group id id 1 consumer`
 abbrev pub own_words : DeadLetterSearch → List ℕ → List (List ℕ)
 own_words d id = codes "XPENDING" ∷ string_bytes d.key ∷ string_bytes d.group ∷ id ∷ id ∷ decimal 1
@@ -83,6 +78,11 @@ pub record IsBehind (page : List Waiting) (start : List ℕ) : Type 0 where
   pub last : Waiting
   pub page_is : page ≡ before ++ last ∷ []
   pub start_is : start ≡ codes "(" ++ string_bytes last.id
+
+-- the page is the last one, since it is not full; or this is the start of the next one
+abbrev pub IsNext : List Waiting → Option (List ℕ) → Type 0
+IsNext page None = length page < 100
+IsNext page (Some start) = (100 ≤ length page) × IsBehind page start
 
 -- a row of the reply to XCLAIM: the id and the texts of the entry, or nil
 abbrev pub Row : Type 0
@@ -218,11 +218,58 @@ GivesUpSome c names ws old new = (new ≡ old) ⊎ (((d : Desk) × PostsSome c n
     ⊎ ((es : List Entry) × (m : Link) × (d : Desk) × (d' : Desk) × PostsAll c names.2 ws es old none_waits m d
     × DeliversSome names m d new d'))
 
+-- whose pending entries are searched, which names the letters have, and from which delivery count entries are given up
+pub record Searcher : Type 0 where
+  pub claimer : Claimer
+  pub names : Names
+  pub deliveries : ℕ
+
+-- the same of a search
+abbrev pub searcher_of : DeadLetterSearch → Searcher
+searcher_of d = record { claimer = claimer_of d d.min_idle; names = letter_names d; deliveries = d.deliveries }
+
+-- `XPENDING key group start + 100 consumer` for own entries, and for those of all consumers
+-- `XPENDING key group IDLE min-idle start + 100`
+abbrev pub page_words : Claimer → Bool → List ℕ → List (List ℕ)
+page_words c true start =
+    codes "XPENDING" ∷ c.key ∷ c.group ∷ start ∷ codes "+" ∷ decimal 100 ∷ c.consumer ∷ []
+page_words c false start =
+    codes "XPENDING" ∷ c.key ∷ c.group ∷ codes "IDLE" ∷ decimal c.min_idle ∷ start ∷ codes "+" ∷ decimal 100 ∷ []
+
 -- a page of pending entries was read, and those that were delivered too often were claimed from whoever has had them for
--- the idle time, and given up; own entries have no idle time
-pub record GivesUpPage (d : DeadLetterSearch) (own : Bool) (start : List ℕ) (old new : Link) : Type 0 where
+-- the idle time, and given up; own entries have no idle time. The next page begins there, if there is one
+pub record GivesUpPage (s : Searcher) (own : Bool) (start : List ℕ) (next : Option (List ℕ)) (old new : Link)
+    : Type 0 where
   pub page : List Waiting
   pub between : Link
-  pub reads : ReadsPage old between (page_words d own start) (map waiting_of page)
-  pub gives_up : GivesUp (claimer_of d (if own then 0 else d.min_idle)) (letter_names d)
-      (filter (λ w. nat_le d.deliveries w.deliveries) page) between new
+  pub reads : ReadsPage old between (page_words s.claimer own start) (map waiting_of page)
+  pub gives_up : GivesUp (record s.claimer { min_idle = if own then 0 else s.claimer.min_idle }) s.names
+      (filter (λ w. nat_le s.deliveries w.deliveries) page) between new
+  pub is_next : IsNext page next
+
+-- this number of full pages were searched, one after the other, and the next one begins there
+abbrev pub SearchesFull : Searcher → Bool → ℕ → List ℕ → Link → Link → Type 0
+SearchesFull s own zero next old new = (next ≡ codes "-") × (new ≡ old)
+SearchesFull s own (suc n) next old new = (start : List ℕ) × (m : Link) × SearchesFull s own n start old m
+    × GivesUpPage s own start (Some next) m new
+
+-- all pages were searched to the last one, or the first 1,000 of them
+abbrev pub Searches : Searcher → Bool → Link → Link → Type 0
+Searches s own old new = ((n : ℕ) × (start : List ℕ) × (m : Link) × SearchesFull s own n start old m
+    × GivesUpPage s own start None m new) ⊎ ((next : List ℕ) × SearchesFull s own 1000 next old new)
+
+-- the own entries were searched, and then the idle ones of all consumers
+abbrev pub SearchesBoth : Searcher → Link → Link → Type 0
+SearchesBoth s old new = (m : Link) × Searches s true old m × Searches s false m new
+
+-- the number of reads since the last search, after this command: one more if it read new entries
+pub record IsCounted (before : ℕ) (asked : Asked) (reads : ℕ) : Type 0 where
+  pub read : asked ≡ New → before < 18446744073709551615 → reads ≡ before + 1
+  pub other : asked ≢ New → reads ≡ before
+
+-- before the first command both are searched; later the idle entries of all consumers, once as many reads were made as
+-- the worker makes between its claims
+pub record IsSearched (s : Searcher) (begun : Bool) (every reads : ℕ) (old new : Link) : Type 0 where
+  pub first : begun ≡ false → SearchesBoth s old new
+  pub due : begun ≡ true → every ≤ reads → Searches s false old new
+  pub later : begun ≡ true → reads < every → new ≡ old

@@ -5,9 +5,10 @@ ghost use Rattle.std.specs.List.{flat_map};
 ghost use Rattle.worker.specs.Letters.{Entry};
 ghost use Rattle.redis_connection.specs.Ask.{Asks};
 ghost use Rattle.worker.specs.DeadLetters.Besides.{Besides, BreaksBesides, BreaksLooking, GivesUpNow, Looks, OnlyLooks};
-ghost use Rattle.worker.specs.DeadLetters.Dead.{AreJust, BreaksOff, Delivers, DeliversSome, GivesUp, GivesUpPage, GivesUpSome, IsBehind};
+ghost use Rattle.worker.specs.DeadLetters.Dead.{AreJust, BreaksOff, Delivers, DeliversSome, GivesUp, GivesUpPage, GivesUpSome};
 ghost use Rattle.worker.specs.DeadLetters.Dead.{Posted, PostedFields, PostsAll, PostsSome, ReadsPage, claim_words, claimer_of, own_words, page_words};
-ghost use Rattle.worker.specs.DeadLetters.Dead.{IsAllowed, IsRefused, letter_names, none_waits, row_of, rows_of, rows_reading, waiting_of};
+ghost use Rattle.worker.specs.DeadLetters.Dead.{IsAllowed, IsCounted, IsNext, IsRefused, IsSearched, Searches, SearchesBoth, letter_names};
+ghost use Rattle.worker.specs.DeadLetters.Dead.{none_waits, row_of, rows_of, rows_reading, searcher_of, waiting_of};
 ghost use Rattle.worker.specs.Letters.{desk_of, names_of};
 
 use crate::dead_letters::error::{SearchError, SearchSettingsError};
@@ -191,8 +192,12 @@ impl DeadLetterSearch {
         ensures waits { IsTrue in_hand → (result ≡ Ok tt) × (connection.new ≡ connection.old) }
         ensures waits_once { IsTrue self.old.waits → (result ≡ Ok tt) × (connection.new ≡ connection.old)
             × (self.new.waits ≡ false) }
+        ensures searches { in_hand ≡ false → self.old.waits ≡ false → OnOk result ((reads : ℕ)
+            × IsCounted self.old.reads asked reads
+            × IsSearched (searcher_of self.old) self.old.begun self.old.every reads connection.old connection.new) }
         ensures ok { OnOk result (Besides connection.old connection.new) }
         ensures err { OnErr result (BreaksBesides connection.old connection.new) }
+        ensures same { searcher_of self.new ≡ searcher_of self.old }
     {
         self.reads = count_reads(self.reads, asked);
         let waits = mem::replace(&mut self.waits, false);
@@ -208,6 +213,10 @@ impl DeadLetterSearch {
         alloc: Global,
         connection: &mut Connection<R, W>,
     ) -> Result<(), SearchError>
+        ensures searches { OnOk result (IsSearched (searcher_of self.old) self.old.begun self.old.every self.old.reads
+            connection.old connection.new) }
+        ensures same { searcher_of self.new ≡ searcher_of self.old }
+        ensures begun { self.new.begun ≡ true }
         ensures ok { OnOk result (Besides connection.old connection.new) }
         ensures err { OnErr result (BreaksBesides connection.old connection.new) }
     {
@@ -228,6 +237,8 @@ impl DeadLetterSearch {
         alloc: Global,
         connection: &mut Connection<R, W>,
     ) -> Result<(), SearchError>
+        ensures searches { OnOk result (SearchesBoth (searcher_of self.old) connection.old connection.new) }
+        ensures same { self.new ≡ record self.old { letters = self.new.letters } }
         ensures ok { OnOk result (Besides connection.old connection.new) }
         ensures err { OnErr result (BreaksBesides connection.old connection.new) }
     {
@@ -242,11 +253,13 @@ impl DeadLetterSearch {
         connection: &mut Connection<R, W>,
         own: bool,
     ) -> Result<(), SearchError>
+        ensures searches { OnOk result (Searches (searcher_of self.old) own connection.old connection.new) }
+        ensures same { self.new ≡ record self.old { letters = self.new.letters } }
         ensures ok { OnOk result (Besides connection.old connection.new) }
         ensures err { OnErr result (BreaksBesides connection.old connection.new) }
     {
         let mut start = String::from_str(alloc, "-")?;
-        for _ in 0..PAGES {
+        for _page in 0..PAGES {
             match self.search_page(alloc, connection, &start, own)? {
                 Some(next) => start = next,
                 None => return Ok(()),
@@ -264,7 +277,9 @@ impl DeadLetterSearch {
         own: bool,
     ) -> Result<Option<String>, SearchError>
         ensures ok { OnOk result (Besides connection.old connection.new) }
-        ensures given_up { OnOk result (GivesUpPage self.old own start.now connection.old connection.new) }
+        ensures given_up { IfOk result (λ next. GivesUpPage (searcher_of self.old) own start.now
+            (option_map string_bytes next) connection.old connection.new) }
+        ensures same { self.new ≡ record self.old { letters = self.new.letters } }
         ensures err { OnErr result (BreaksBesides connection.old connection.new) }
     {
         let page = self.page(alloc, connection, start, own)?;
@@ -285,7 +300,7 @@ impl DeadLetterSearch {
     ) -> Result<Vec<Waiting>, SearchError>
         ensures ok { OnOk result (Looks connection.old connection.new) }
         ensures reads { IfOk result (λ page. ReadsPage connection.old connection.new
-            (page_words self.now own start.now) (map waiting_of page.items)) }
+            (page_words (searcher_of self.now).claimer own start.now) (map waiting_of page.items)) }
         ensures err { OnErr result (BreaksLooking connection.old connection.new) }
     {
         let key = &self.key;
@@ -418,8 +433,7 @@ fn check_settings(key: &str, to: &GiveUp) -> Result<(), SearchSettingsError>
 
 /// How many reads were made, if this was the last command.
 fn count_reads(reads: usize, asked: Asked) -> usize
-    ensures read { asked ≡ Asked.New → reads < 18446744073709551615 → result ≡ reads + 1 }
-    ensures other { asked ≢ Asked.New → result ≡ reads }
+    ensures { IsCounted reads asked result }
 {
     if asked == Asked::New {
         reads.saturating_add(1)
@@ -533,8 +547,7 @@ fn keep_too_often(mut page: Vec<Waiting>, deliveries: usize) -> Vec<Waiting>
 
 /// The start of the next page, just after the last id; `None` if this page is not full.
 fn find_next_start(alloc: Global, page: &[Waiting]) -> Result<Option<String>, AllocError>
-    ensures { IfOk result (λ next. MatchOption next (length page.now < PAGE)
-        (λ start. (PAGE ≤ length page.now) × IsBehind page.now (string_bytes start))) }
+    ensures { IfOk result (λ next. IsNext page.now (option_map string_bytes next)) }
 {
     if page.len() < PAGE {
         return Ok(None);

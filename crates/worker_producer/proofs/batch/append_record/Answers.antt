@@ -1,7 +1,7 @@
-use Rattle.std.proofs.Common.{◌≡◌, ◌∙◌, ◌++◌, ◌+◌, ◌*◌, ap, sym, ℕ, List, length, rules}
+use Rattle.std.proofs.Common.{◌≡◌, ◌∙◌, ◌++◌, ◌+◌, ◌*◌, ap, sym, ℕ, List, length, map, rules}
 use Rattle.std.specs.List.{flat_map}
 use Rattle.redis_wire.specs.Packed.{bulk_bytes, head_bytes}
-use Rattle.worker_producer.specs.Records.{arguments_of, arguments_of_field}
+use Rattle.worker_producer.specs.Records.{arguments_of, field_of, fields_of}
 use Rattle.worker_producer.specs.Sentences.{own_id}
 use Rattle.worker_producer.proofs.RequestLemmas.{arguments_counted, four_parts}
 use Rattle.worker_producer.proofs.batch.append_record.Goals as goal
@@ -9,7 +9,7 @@ use Rattle.worker_producer.proofs.batch.append_record.Goals as goal
 pub returns : goal.returns
 returns c =
     let out = c.args.out.now.items in
-    let args = arguments_of c.args.fields.now in
+    let args = arguments_of (fields_of c.args.fields.now) in
     let counted : 2 * length c.as_slice-fields.result.now ≡ length args =
     ap (λ xs. 2 * length xs) c.as_slice-fields.ensures.value
     ∙ sym (arguments_counted c.args.fields.now.items) in
@@ -24,7 +24,7 @@ returns c =
     (c.deref-2.ensures.value ∙ c.in_ok-write_id.ensures) in
     let fields : c.append_fields.new.out.items ≡ c.push_bulk.new.out.items ++ flat_map bulk_bytes args =
     c.in_ok-append_fields.ensures
-    ∙ ap (λ xs. c.push_bulk.new.out.items ++ flat_map bulk_bytes (flat_map arguments_of_field xs)) c.as_slice-fields.ensures.value in
+    ∙ ap (λ xs. c.push_bulk.new.out.items ++ flat_map bulk_bytes (arguments_of (map field_of xs))) c.as_slice-fields.ensures.value in
     four_parts out c.append_head.new.out.items c.extend_from_slice.new.self.items c.push_bulk.new.out.items
     c.append_fields.new.out.items (head_bytes (before + 1 + length args)) c.args.front.now.bytes.items (bulk_bytes (own_id c.args.number))
     (flat_map bulk_bytes args) head front id fields

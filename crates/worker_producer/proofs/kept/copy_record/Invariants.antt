@@ -1,8 +1,7 @@
-use Rattle.std.proofs.Common.{◌≡◌, take}
-use Rattle.std.specs.List.{flat_map}
-use Rattle.worker_producer.specs.Records.{arguments_of_field}
+use Rattle.std.proofs.Common.{◌≡◌, map, take}
+use Rattle.worker_producer.specs.Records.{field_of}
 use Rattle.worker_producer.proofs.kept.copy_record.Given as goal
 
 abbrev pub invariant-loop-field : goal.invariant-loop-field
 invariant-loop-field l =
-    flat_map arguments_of_field l.copy.items ≡ flat_map arguments_of_field (take l.field-index l.original.items)
+    map field_of l.copy.items ≡ map field_of (take l.field-index l.original.items)

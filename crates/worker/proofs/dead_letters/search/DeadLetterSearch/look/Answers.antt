@@ -6,15 +6,9 @@ use Rattle.worker.proofs.dead_letters.search.DeadLetterSearch.look.Goals as goal
 pub returns-in_err-start-clause-err : goal.returns-in_err-start-clause-err
 returns-in_err-start-clause-err g c = on_err c.from_residual.result (no_more _)
 
-pub loop-init : goal.loop-init
-loop-init g c = record { besides = nothing _ }
-
 pub returns-in_err-next-clause-err : goal.returns-in_err-next-clause-err
 returns-in_err-next-clause-err g c = on_err c.from_residual-in_err-next.result
-    (besides_breaks _ _ _ c.loop.invariant.besides c.in_err-next.ensures.err)
+    (besides_breaks _ _ _ c.loop-page.invariant.besides c.in_err-next.ensures.err)
 
 pub returns-in-None-clause-ok : goal.returns-in-None-clause-ok
-returns-in-None-clause-ok g c = besides_both _ _ _ c.loop.invariant.besides c.in_ok-next.ensures.ok
-
-pub loop-preserved : goal.loop-preserved
-loop-preserved g c = record { besides = besides_both _ _ _ c.loop.invariant.besides c.in_ok-next.ensures.ok }
+returns-in-None-clause-ok g c = besides_both _ _ _ c.loop-page.invariant.besides c.in_ok-next.ensures.ok

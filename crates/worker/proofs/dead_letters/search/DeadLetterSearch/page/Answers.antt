@@ -1,6 +1,6 @@
 use Rattle.std.proofs.Common.{◌∙◌, IfOk, ap, inl, map, refl, subst, sym}
 use Rattle.worker.specs.DeadLetters.Besides.{OnlyLooks}
-use Rattle.worker.specs.DeadLetters.Dead.{ReadsPage, page_words, waiting_of}
+use Rattle.worker.specs.DeadLetters.Dead.{ReadsPage, page_words, searcher_of, waiting_of}
 use Rattle.worker.proofs.dead_letters.search.DeadLetterSearch.page.Goals as goal
 
 pub returns-then-own-clause-ok : goal.returns-then-own-clause-ok
@@ -24,7 +24,7 @@ returns-then-own-clause-reads g c =
     subst (λ words. IfOk c.ask_page.result (λ page. ReadsPage c.args.connection.now c.ask_page.new.connection words
     (map waiting_of page.items)))
     (c.xpending_consumer_count-command.ensures
-    ∙ ap (λ own. page_words c.args.self.now own c.args.start.now) (sym c.if-own.true))
+    ∙ ap (λ own. page_words (searcher_of c.args.self.now).claimer own c.args.start.now) (sym c.if-own.true))
     c.ask_page.ensures.reads
 
 pub returns-else-own-clause-reads : goal.returns-else-own-clause-reads
@@ -32,5 +32,5 @@ returns-else-own-clause-reads g c =
     subst (λ words. IfOk c.ask_page-else-own.result (λ page. ReadsPage c.args.connection.now
     c.ask_page-else-own.new.connection words (map waiting_of page.items)))
     (c.xpending_idle_count-command.ensures
-    ∙ ap (λ own. page_words c.args.self.now own c.args.start.now) (sym c.if-own.false))
+    ∙ ap (λ own. page_words (searcher_of c.args.self.now).claimer own c.args.start.now) (sym c.if-own.false))
     c.ask_page-else-own.ensures.reads
