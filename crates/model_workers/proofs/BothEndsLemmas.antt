@@ -86,9 +86,11 @@ nothing_comes_out_twice s fit events v b none = (
 pub first_ones_come_out : FirstOnesComeOut
 first_ones_come_out s fit events v b none order =
     let file = code_writes_in_order s b.settings events v b.drains order in
-    let front = log_is_first_records s fit events none in
-    (file.0 ++ front.0, sym (append_assoc v.history.committed file.0 front.0)
-    ∙ (ap (λ (l : List (Entry Fields)). l ++ front.0) file.1 ∙ front.1))
+    let front = log_is_first_records s fit events none in (
+      file.0 ++ front.0,
+      sym (append_assoc v.history.committed file.0 front.0)
+          ∙ (ap (λ (l : List (Entry Fields)). l ++ front.0) file.1 ∙ front.1),
+    )
 
 -- ---- the last read
 
@@ -243,19 +245,18 @@ pub each_comes_out_once : EachComesOutOnce
 each_comes_out_once s fit filling more f settings v runs none acks drained whole =
     let events : List (Event Fields) = filling ++ more in
     let w : World Fields = after s events in
-    let all : log w ≡ entries s.base s.records = filled s fit filling more f none in
-    (
+    let all : log w ≡ entries s.base s.records = filled s fit filling more f none in (
       λ e h. elim (code_keeps_each s settings events v runs acks e
           (subst (λ (l : List (Entry Fields)). Among e l) (sym all) h)) [
-        | inl fresh ↦ absurd (subst (λ (l : List (Entry Fields)). Among e l) drained.1 fresh)
-        | inr later ↦ elim later [
-          | inl pending ↦ absurd (subst (λ (ps : List Pending). Among e.0 (pending_ids ps)) drained.0 pending)
-          | inr kept ↦ elim kept [
-            | inl file ↦ file
-            | inr deleted ↦ absurd (subst (λ (ids : List Id). Among e.0 ids) whole deleted)
-          ]
-        ]
-      ],
+            | inl fresh ↦ absurd (subst (λ (l : List (Entry Fields)). Among e l) drained.1 fresh)
+            | inr later ↦ elim later [
+              | inl pending ↦ absurd (subst (λ (ps : List Pending). Among e.0 (pending_ids ps)) drained.0 pending)
+              | inr kept ↦ elim kept [
+                | inl file ↦ file
+                | inr deleted ↦ absurd (subst (λ (ids : List Id). Among e.0 ids) whole deleted)
+              ]
+            ]
+          ],
       (
         λ e h. subst (λ (l : List (Entry Fields)). Among e l) all (code_writes_the_log s settings events v runs e h),
         code_writes_once s settings events v runs,
