@@ -1,6 +1,6 @@
 //! The search for entries that were delivered too often.
 ghost use Rattle.std.specs.Prelude.{◌≡◌, ◌≢◌, ◌<◌, ◌≤◌, ◌%◌, ◌+◌, ◌∷◌, [], IfErr, IfOk, IfSome, IsTrue, MatchOption, Ok, OnErr, OnOk, Some, false, true};
-ghost use Rattle.std.specs.Prelude.{List, filter, length, map, nat_le, string_bytes};
+ghost use Rattle.std.specs.Prelude.{ℕ, List, filter, length, map, nat_le, option_map, string_bytes};
 ghost use Rattle.std.specs.List.{flat_map};
 ghost use Rattle.worker.specs.Letters.{Entry};
 ghost use Rattle.redis_connection.specs.Ask.{Asks};
