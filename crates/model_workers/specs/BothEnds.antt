@@ -15,17 +15,17 @@ use Rattle.worker.specs.Gathered.{Doings, committed_too, done_too}
 use Rattle.worker.specs.Session.{EndsBy, Standing, Turn, after_turn, asking}
 use Rattle.worker.specs.declared.state.Settings.{Settings}
 use Rattle.worker.specs.declared.worker.Progress.{Progress}
-use Rattle.worker_producer.specs.Machine as producer
+use Rattle.worker_producer.specs.Machine.{Standing as Producer}
 use Rattle.worker_producer.specs.Schedule as feed
 use Rattle.worker_producer.specs.Session.{IsRound}
-use Rattle.worker_producer.specs.declared.settings.Settings as feed_settings
+use Rattle.worker_producer.specs.declared.settings.Settings.{Settings as FeedSettings}
 use Rattle.worker_producer.specs.declared.stage.Asked.TheVariants.{Nothing}
 
 -- a producer and a worker have made these events together: rounds, failures, crashes and starts of each, in any order.
 -- Batches and acknowledgements may arrive late, and others may use the server. This is the worker's state after them
 pub record BothRun (s : Setting Fields) (events : List (Event Fields)) (worker : Standing Doings) : Type 0 where
-  pub feed_settings : feed_settings.Settings
-  pub producer : producer.Standing
+  pub feed_settings : FeedSettings
+  pub producer : Producer
   pub feeds : feed.Runs s feed_settings events producer
   pub settings : Settings
   pub drains : Runs s settings events worker
@@ -48,15 +48,15 @@ FirstOnesComeOut = (s : Setting Fields) → Fit s → (events : List (Event Fiel
 
 -- the last round of a producer sent nothing, since all records are added. So `fill` of `stream_fill` returns Ok
 pub record IsFilled (s : Setting Fields) (events : List (Event Fields)) : Type 0 where
-  pub settings : feed_settings.Settings
+  pub settings : FeedSettings
   pub some : 0 < settings.batch
-  pub standing : producer.Standing
+  pub standing : Producer
   pub runs : feed.Runs s settings events standing
   pub known : Option (List Fields)
   pub count : ℕ
   pub old : Link
   pub new : Link
-  pub ends : producer.Standing
+  pub ends : Producer
   pub last : IsRound settings known count old new standing ends Nothing
   pub sends : feed.SendsTheRecords s settings standing last.asks.0
 
