@@ -1,5 +1,5 @@
 -- A producer and a worker over one server.
-use Rattle.std.proofs.Common.{◌≡◌, ◌⊎◌, inl, inr, refl, sym, ap, subst, ◌∙◌, ℕ, zero, suc, ◌<◌, arith, List, [], ◌∷◌, ◌++◌}
+use Rattle.std.proofs.Common.{◌≡◌, inl, inr, refl, sym, ap, subst, ◌∙◌, ℕ, zero, suc, ◌<◌, arith, List, [], ◌∷◌, ◌++◌}
 use Rattle.std.proofs.Common.{append-nil, append_assoc, length, map, Option, Some, None}
 use Rattle.std.proofs.lemmas.List.{length-append}
 use Rattle.model_server.specs.Group.Worker.{Id, Entry, Phase, own, claiming, reading, Answer, news}
@@ -8,24 +8,23 @@ use Rattle.model_server.specs.Group.World as group
 use Rattle.model_server.specs.Group.Law.{Among}
 use Rattle.model_server.proofs.GroupLemmas.Among.{among_left}
 use Rattle.model_server.specs.Once.Feed.{entries}
-use Rattle.model_server.specs.Once.Law.{AreFirst, Fit, IsDrained, NoOtherAdds, Once, after, log}
+use Rattle.model_server.specs.Once.Law.{AreFirst, Fit, NoOtherAdds, after, log}
 use Rattle.model_server.specs.Once.Order.{AllInOrder}
 use Rattle.model_server.specs.Once.World.{Event, Setting, World, Take, first_world, happens, run}
 use Rattle.model_server.proofs.OnceLemmas.Fill.{log_is_first_records, log_only_grows}
 use Rattle.model_server.proofs.OnceLemmas.Grows.{file_grows}
 use Rattle.model_server.proofs.OnceLemmas.Order.{Line, MayFollow, PhaseIs, always_line, file_is_first_of_log, log_split}
 use Rattle.model_server.proofs.OnceLemmas.Write.{always_good}
-use Rattle.worker.specs.Answers.{Heard, hears, told}
+use Rattle.worker.specs.Answers.{Heard}
 use Rattle.worker.specs.Gathered.{Doings, committed_too, done_too}
 use Rattle.worker.specs.Questions.{count_asked}
 use Rattle.worker.specs.Session.{Standing, after_turn, asking}
-use Rattle.worker.specs.declared.state.Settings.{Settings}
 use Rattle.worker_producer.proofs.ScheduleLemmas.{asking_nothing_is_all}
 use Rattle.model_workers.specs.Files.Files.{Fields}
-use Rattle.model_workers.specs.System.Once.{Fate, IsHeard, Meantime, Runs, comes, comes_not, count, reply_in, reply_to}
-use Rattle.model_workers.specs.System.Once.{question_events, round_events, turns, until_asked}
+use Rattle.model_workers.specs.System.Once.{Fate, IsHeard, comes, comes_not, count, reply_in, reply_to}
+use Rattle.model_workers.specs.System.Once.{question_events, turns, until_asked}
 use Rattle.model_workers.specs.BothEnds.{EachComesOutOnce, FirstOnesComeOut, IsFilled, NothingComesOutTwice, ReadsNoMore}
-use Rattle.model_workers.specs.BothEnds.{WhatGoesInComesOut, file_at_the_end, to_the_end}
+use Rattle.model_workers.specs.BothEnds.{WhatGoesInComesOut, to_the_end}
 use Rattle.model_workers.proofs.SystemLemmas.OnceLemmas.{Is, Ready, as_is, before_is, code_keeps_each, code_writes_in_order}
 use Rattle.model_workers.proofs.SystemLemmas.OnceLemmas.{code_writes_once, code_writes_the_log, is_ready, run_on, runs_are_events}
 
@@ -98,7 +97,7 @@ first_ones_come_out s fit events v b none order =
 pub record ReadNone (n : ℕ) (ids : List Id) (phase : Phase) (stream : group.World Fields) : Type 0 where
   pub nothing : ids ≡ []
   pub rounds : ℕ
-  pub phase : phase ≡ reading rounds
+  pub reads : phase ≡ reading rounds
   pub given : map whole (given stream.deleted n stream.fresh) ≡ []
 
 read_none : (name : Name) (n : ℕ) (fate : Fate) (ids : List Id) (phase : Phase) (stream : group.World Fields)
@@ -110,7 +109,7 @@ read_none name n (comes pick next) [] (claiming from) stream h =
 read_none name n (comes pick next) [] (reading rounds) stream h = record {
   nothing = refl;
   rounds = rounds;
-  phase = refl;
+  reads = refl;
   given = (let t : Some (news (map whole (given stream.deleted n stream.fresh))) ≡ Some (news []) = h in cc);
 }
 read_none name n (comes pick next) (i ∷ ids) phase stream h =
@@ -123,10 +122,10 @@ given_none n [] some h = refl
 given_none zero (e ∷ es) some h = absurd (omega arith)
 given_none (suc n) (e ∷ es) some h = absurd (let t : whole e ∷ map whole (given [] n es) ≡ [] = h in cc)
 
-nothing_to_commit : (commits acks : List Id) → Ready commits acks → acks ≡ [] → commits ≡ []
-nothing_to_commit [] acks r e = refl
-nothing_to_commit (i ∷ ids) [] r e = absurd r
-nothing_to_commit (i ∷ ids) (j ∷ js) r e = absurd (let t : j ∷ js ≡ [] = e in cc)
+nothing_to_commit : (s : Setting Fields) (commits acks : List Id) → Ready s commits acks → acks ≡ [] → commits ≡ []
+nothing_to_commit s [] acks r e = refl
+nothing_to_commit s (i ∷ ids) [] r e = absurd r
+nothing_to_commit s (i ∷ ids) (j ∷ js) r e = absurd (let t : j ∷ js ≡ [] = e in cc)
 
 module _ (s : Setting Fields) (events : List (Event Fields)) (r : ReadsNoMore s events)
     (order : AllInOrder s first_world (events ++ until_asked r.settings r.standing r.meantime)) where
@@ -158,7 +157,7 @@ module _ (s : Setting Fields) (events : List (Event Fields)) (r : ReadsNoMore s 
 
   reply_is : replied w ≡ Some (news [])
   reply_is = subst (λ (z : World Fields). replied z ≡ Some (news [])) (sym there)
-      (subst (λ (o : Option Heard). IsHeard (reply_in r.settings v r.meantime s (after s events)) o) r.none r.hears)
+      (subst (λ (o : Option Heard). IsHeard (reply_in r.settings v r.meantime s (after s events)) o) r.none r.heard)
 
   read : ReadNone n u.machine.to_acknowledge u.machine.phase w.stream
   read = read_none s.name n r.meantime.fate u.machine.to_acknowledge u.machine.phase w.stream reply_is
@@ -170,17 +169,17 @@ module _ (s : Setting Fields) (events : List (Event Fields)) (r : ReadsNoMore s 
   no_rest =
       let quiet : MayFollow w.consumer.machine.phase line.rest None =
       subst (λ (o : Option (Answer Fields)). MayFollow w.consumer.machine.phase line.rest o) is_worker.answer line.follows in
-      subst (λ (p : Phase). PhaseIs p line.rest) (ap (λ m. m.phase) is_worker.machine ∙ read.phase) quiet
+      subst (λ (p : Phase). PhaseIs p line.rest) (ap (λ m. m.phase) is_worker.machine ∙ read.reads) quiet
 
   no_fresh : w.stream.fresh ≡ []
   no_fresh =
-      let asked : n ≡ r.settings.count = ap (count_asked r.settings) read.phase in
+      let asked : n ≡ r.settings.count = ap (count_asked r.settings) read.reads in
       given_none n w.stream.fresh (subst (λ (k : ℕ). 0 < k) (sym asked) r.some)
       (subst (λ (d : List Id). map whole (given d n w.stream.fresh) ≡ []) line.whole_log read.given)
 
   no_lines : w.consumer.lines ≡ []
   no_lines =
-      let none : u.machine.to_commit ≡ [] = nothing_to_commit u.machine.to_commit u.machine.to_acknowledge
+      let none : u.machine.to_commit ≡ [] = nothing_to_commit s u.machine.to_commit u.machine.to_acknowledge
       (is_ready s v.machine.every v.machine.phase v.machine.to_commit v.machine.to_acknowledge) read.nothing in
       let nothing : w.consumer.machine.to_commit ≡ [] = ap (λ m. m.to_commit) is_worker.machine ∙ none in
       let good = always_good s before in
@@ -188,6 +187,7 @@ module _ (s : Setting Fields) (events : List (Event Fields)) (r : ReadsNoMore s 
 
   -- as the worker asks for new entries the last time, its file has the whole log
   file_is_the_log : w.consumer.file ≡ log w
+  unfolding line
   file_is_the_log =
       let file : List (Entry Fields) = w.consumer.file in
       sym (log_split s before order
@@ -236,7 +236,7 @@ what_goes_in_comes_out s fit filling more f r none order =
     ap (λ (es : List (Event Fields)). (after s es).consumer.file) split in
     let x : Standing Doings = after_turn done_too committed_too r.settings r.standing r.turn in
     let i = runs_are_events s r.settings (to_the_end r) x
-    (turns r.settings events r.standing r.meantime r.turn r.progress r.ends r.hears r.runs) in
+    (turns r.settings events r.standing r.meantime r.turn r.progress r.ends r.heard r.runs) in
     sym i.file ∙ (same ∙ sym (both_first all there.consumer.file grew front))
 
 -- ---- in any order

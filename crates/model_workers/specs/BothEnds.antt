@@ -71,7 +71,7 @@ pub record ReadsNoMore (s : Setting Fields) (events : List (Event Fields)) : Typ
   pub turn : Turn
   pub progress : Progress
   pub ends : EndsBy (hears settings (asking committed_too settings standing).asked turn.answer) turn.verdicts progress
-  pub hears : HearsTheAnswer settings standing meantime s (after s events) turn.answer
+  pub heard : HearsTheAnswer settings standing meantime s (after s events) turn.answer
   pub none : hears settings (asking committed_too settings standing).asked turn.answer ≡ Some (told (news []))
 
 module _ {s : Setting Fields} {events : List (Event Fields)} (r : ReadsNoMore s events) where
