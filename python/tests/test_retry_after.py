@@ -8,6 +8,7 @@ import sys
 import tempfile
 import time
 import unittest
+from unittest import mock
 
 from jagyerti import connect, keeper, resp, server
 from jagyerti.desk import Desk
@@ -152,7 +153,8 @@ class RetryAfter(Live):
         link = keeper.Link(lambda: Address.parse(self.server.url), connect.Options(), self.fail)
         self.addCleanup(link.close)
         held = keeper.Keeper(link, ["k", "g", "c"], 3, 1000, 3600)
-        held.adopt()
+        with mock.patch("jagyerti.keeper.random.random", return_value=0.5):  # else one may be due at once
+            held.adopt()
         self.assertEqual(sorted(held.due), ["1-0", "2-0"])
         before = dict(held.due)
         held.adopt()

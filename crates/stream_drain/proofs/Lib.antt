@@ -18,3 +18,4 @@ pub mod OnceLemmas
 pub mod ReachLemmas
 pub mod FailoverLemmas
 pub mod TurnLemmas
+pub mod ProgramLemmas

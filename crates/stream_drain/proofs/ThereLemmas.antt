@@ -10,7 +10,7 @@ use Rattle.std.proofs.lemmas.Bool.Decides.{nat_tests}
 use Rattle.std.proofs.lemmas.List.{take-append-drop}
 use Rattle.std.proofs.lemmas.Slice.Eq.{bytes_eq-Decides}
 use Rattle.worker_journal.specs.Holds.{Holds, IsHeld, committed_in}
-use Rattle.worker_journal.specs.Lines.{AreLines, HasLine, HasNoEnd}
+use Rattle.worker_journal.specs.Lines.{HasLine, HasNoEnd}
 use Rattle.worker_journal.proofs.LastLinesLemmas.{piece_of}
 use Rattle.worker_journal.specs.KnownIds.Known.{Place, knows, places_in}
 use Rattle.worker_journal.specs.KnownIds.Told.{begins}

@@ -1,5 +1,5 @@
 -- Known ids, and the entries that get a line.
-use Rattle.std.specs.Prelude.{◌||◌, ℕ, List, [], ◌∷◌, Bool, false, Option, Some, None, if◌then◌else◌, option_map}
+use Rattle.std.specs.Prelude.{◌||◌, List, [], ◌∷◌, Bool, false, Option, Some, None, if◌then◌else◌, option_map}
 use Rattle.std.specs.Str.{bytes_eq}
 use Rattle.worker_journal.specs.KnownIds.Known.{Place, knows, places_in}
 use Rattle.worker_journal.specs.declared.known_ids.known.KnownIds.{KnownIds}

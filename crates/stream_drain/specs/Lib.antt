@@ -2,6 +2,7 @@
 pub mod Options
 pub mod Counts
 pub mod Turn
+pub mod Program
 pub mod Json
 pub mod Line
 pub mod Report

@@ -5,7 +5,7 @@ ghost use Rattle.worker.specs.DeadLetters.Besides.{Besides, BreaksBesides, Looks
 ghost use Rattle.stream_drain.specs.Backlog.{Hears};
 ghost use Rattle.stream_drain.specs.Filed.{FiledFrom};
 ghost use Rattle.stream_drain.specs.Lived.{Leads};
-ghost use Rattle.stream_drain.specs.Turn.{IsConfirmedTurn};
+ghost use Rattle.stream_drain.specs.Turn.{EachIsConfirmed, IsConfirmedTurn};
 ghost use Rattle.model_workers.specs.Loops.Loop.{Loops, Stops};
 ghost use Rattle.worker.specs.Session.{standing_of};
 
@@ -63,6 +63,10 @@ pub fn drain<R: Read + Drop, W: Write + Drop, D: LogFile + Drop, T: Clock + Epri
     ensures ended { IfOk result (λ _. IsTrue until_empty) }
     ensures read { IfOk result (λ drained. drained.last.asked ≡ Asked.New) }
     ensures empty { IfOk result (λ drained. drained.last.before ≡ lines.new.seen) }
+    ensures confirmed { OnOk result (IfSome wait (λ w. EachIsConfirmed worker.old.settings w
+        connection.old connection.new
+        (standing_of worker.old (⟦<Lines<D> as Handler>⟧.history lines.old))
+        (standing_of worker.new (⟦<Lines<D> as Handler>⟧.history lines.new)))) }
     ensures ok { OnOk result (Leads (Loops worker.old.settings) connection.old connection.new
         (standing_of worker.old (⟦<Lines<D> as Handler>⟧.history lines.old))
         (standing_of worker.new (⟦<Lines<D> as Handler>⟧.history lines.new))) }
@@ -75,7 +79,7 @@ pub fn drain<R: Read + Drop, W: Write + Drop, D: LogFile + Drop, T: Clock + Epri
         (D.may_leave lines.new.log.file) }
 {
     let mut asked = Asked::Nothing;
-    for _ in 0..u64::MAX {
+    for _turn in 0..u64::MAX {
         let last = turn(rt, connection, worker, lines, report, dead, wait, asked)?;
         asked = last.asked;
         if until_empty && asked == Asked::New && lines.seen == last.before {

@@ -1,6 +1,7 @@
 //! Entries as lines of a file.
 ghost use Rattle.std.specs.Prelude.{◌≡◌, ◌+◌, ◌++◌, ◌∷◌, [], List, ℕ, IfErr, IfOk, IfSome, OnErr, OnOk, false, flat_map, is_some, length, true};
 ghost use Rattle.model_server.specs.Group.Worker.{done, stop};
+ghost use Rattle.model_server.specs.Once.Order.{LeavesNone};
 ghost use Rattle.worker_journal.specs.KnownIds.Known.{HasPlaceToo, knows, places_in};
 ghost use Rattle.worker_journal.specs.KnownIds.Number.{number_of};
 ghost use Rattle.worker_journal.specs.EntryLine.{field_text, line_of};
@@ -154,6 +155,7 @@ impl<D: LogFile + Drop> Handler for Lines<D> {
         ensures there { verdict_of result ≡ done → is_known (known_by self.old.known) (pair_of entry.now).0 ≡ true
             → HasItsLine self.old.json (pair_of entry.now) (committed_in (D.seen self.new.log.file) self.new.log.len)
             self.new.log.batch.items }
+        ensures none_left { LeavesNone (verdict_of result ∷ []) }
         ensures why { verdict_of result ≡ stop → IfSome self.new.fault (λ fault. Explains fault self.old.json
             (pair_of entry.now) self.old.known (committed_in (D.seen self.new.log.file) self.new.log.len)
             self.new.log.batch.items) }

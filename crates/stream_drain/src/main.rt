@@ -19,8 +19,10 @@
 //! returned nothing new, 2 if an argument is wrong, and else 1 with the reason. `--help` prints its arguments.
 #![tactic(auto)]
 
-ghost use Rattle.std.specs.Prelude.{◌≡◌, IfOk, OnErr, OnOk, is_some};
+ghost use Rattle.std.specs.Prelude.{◌≡◌, ◌⊎◌, IfOk, IfSome, IsTrue, OnErr, OnOk, is_some, true};
 ghost use Rattle.std.specs.Process.{exit_status};
+ghost use Rattle.model_workers.specs.Loops.Loop.{Drains};
+ghost use Rattle.stream_drain.specs.Program.{EndsSo, IsRun, settings_with};
 
 mod backlog;
 mod drain;
@@ -42,15 +44,16 @@ use crate::report::Report;
 use crate::resume::{Start, begun};
 use anyhow::{Context, Error, Result, anyhow};
 use command_lines::{remedy_of, tell};
-use redis_connection::Connection;
+use redis_connection::{Connection, Wait};
 use redis_wire::Limits;
 use std::alloc::{AllocError, Global};
-use std::io::ErrorKind;
+use std::io::{ErrorKind, Read, Write};
 use std::process::ExitCode;
+use std::rt::Clock;
 use std::{env, io};
-use worker::Settings;
 use worker::dead_letters::{DeadLetterSearch, GiveUp};
-use worker_journal::{LogError, SystemFile};
+use worker::{Handler, Settings, Worker};
+use worker_journal::{LogError, LogFile, SystemFile};
 
 fn main(rt: HostRuntime) -> Result<ExitCode> {
     let words = read_arguments(&rt)?;
@@ -120,51 +123,127 @@ fn read_arguments(rt: &HostRuntime) -> Result<Vec<String>> {
 
 /// Drains by these options, over standard input and output.
 fn drain_by(rt: &HostRuntime, options: Options) -> Result<Drained, Failure> {
-    let Options {
-        mut settings,
-        path,
-        until_empty,
-        json,
-        look_up,
-        quiet,
-        dead,
-        wait,
-    } = options;
     let alloc = rt.alloc();
-    let mut lines = open_lines(rt, &path, json, look_up)?;
+    let mut lines = open_lines(rt, &options.path, options.json, options.look_up)?;
     let mut connection = Connection::new(
         alloc,
         rt.reader(),
         io::writer(rt),
         Limits::default(),
     ).map_err(Error::from)?;
-    let mut report = make_report(alloc, &settings, quiet)?;
-    let mut dead = make_search(alloc, &mut settings, dead)?;
-    let Start {
-        mut worker,
-        acknowledges,
-    } = begun(alloc, settings, &lines).context(format_args!("cannot go on with {path}"))?;
-    report.resumes = acknowledges;
-    if acknowledges && let Some(dead) = &mut dead {
-        dead.wait_once();
-    }
+    drain_into(rt, &mut connection, &mut lines, options)
+}
+
+/// Drains by these options, over this connection, into the file of these lines.
+fn drain_into<R: Read + Drop, W: Write + Drop, D: LogFile + Drop, T: Clock + Eprint + AllocGlobal>(
+    rt: &T,
+    connection: &mut Connection<R, W>,
+    lines: &mut Lines<D>,
+    options: Options,
+) -> Result<Drained, Failure>
+    ensures ended { IfOk result (λ _. IsTrue options.until_empty) }
+    ensures ok { OnOk result (EndsSo (settings_with options.dead options.settings) options.wait
+        (⟦<Lines<D> as Handler>⟧.history lines.old) connection.old connection.new) }
+    ensures err { OnErr result ((connection.new ≡ connection.old)
+        ⊎ IsRun (settings_with options.dead options.settings) Drains
+        (⟦<Lines<D> as Handler>⟧.history lines.old) connection.old connection.new) }
+{
+    let mut run = begin_run(rt.alloc(), options, lines)?;
+    make_run(rt, connection, lines, &mut run)
+}
+
+/// A run of the program before its first command.
+#[derive(Drop)]
+struct Run {
+    worker: Worker,
+    report: Report,
+    dead: Option<DeadLetterSearch>,
+    wait: Option<Wait>,
+    until_empty: bool,
+}
+
+/// A run by these options over the file of these lines.
+fn begin_run<D: LogFile + Drop>(alloc: Global, options: Options, lines: &Lines<D>) -> Result<Run>
+    ensures settings { IfOk result (λ run. run.worker.settings ≡ settings_with options.dead options.settings) }
+    ensures wait { IfOk result (λ run. run.wait ≡ options.wait) }
+    ensures until_empty { IfOk result (λ run. run.until_empty ≡ options.until_empty) }
+    ensures dead { IfOk result (λ run. is_some run.dead ≡ is_some options.dead) }
+{
+    let mut settings = options.settings;
+    let mut report = make_report(alloc, &settings, options.quiet)?;
+    let mut dead = make_search(alloc, &mut settings, options.dead)?;
+    let start = begin_worker(alloc, settings, lines, &options.path)?;
+    report.resumes = start.acknowledges;
+    wait_at_start(&mut dead, start.acknowledges);
+    Ok(Run {
+        worker: start.worker,
+        report,
+        dead,
+        wait: options.wait,
+        until_empty: options.until_empty,
+    })
+}
+
+/// Drains, and shows the counts at the end.
+fn make_run<R: Read + Drop, W: Write + Drop, D: LogFile + Drop, T: Clock + Eprint + AllocGlobal>(
+    rt: &T,
+    connection: &mut Connection<R, W>,
+    lines: &mut Lines<D>,
+    run: &mut Run,
+) -> Result<Drained, Failure>
+    ensures ended { IfOk result (λ _. IsTrue run.old.until_empty) }
+    ensures ok { OnOk result (EndsSo run.old.worker.settings run.old.wait
+        (⟦<Lines<D> as Handler>⟧.history lines.old) connection.old connection.new) }
+    ensures err { OnErr result (IsRun run.old.worker.settings Drains
+        (⟦<Lines<D> as Handler>⟧.history lines.old) connection.old connection.new) }
+{
     let ended = drain(
         rt,
-        &mut connection,
-        &mut worker,
-        &mut lines,
-        &mut report,
-        &mut dead,
-        wait,
-        until_empty,
+        connection,
+        &mut run.worker,
+        lines,
+        &mut run.report,
+        &mut run.dead,
+        run.wait,
+        run.until_empty,
     );
-    report.letters = dead.map(|dead| dead.letters());
-    show_report(rt, &report)?;
+    run.report.letters = count_letters(&run.dead);
+    show_report(rt, &run.report)?;
     ended
 }
 
+/// How many entries were given up, if any may be.
+fn count_letters(dead: &Option<DeadLetterSearch>) -> Option<u64> {
+    match dead {
+        Some(dead) => Some(dead.letters()),
+        None => None,
+    }
+}
+
+/// The worker, which first acknowledges the ids of the last lines of its file.
+fn begin_worker<D: LogFile + Drop>(
+    alloc: Global,
+    settings: Settings,
+    lines: &Lines<D>,
+    path: &str,
+) -> Result<Start>
+    ensures settings { IfOk result (λ start. start.worker.settings ≡ settings) }
+{
+    begun(alloc, settings, lines).context(format_args!("cannot go on with {path}"))
+}
+
+/// If the worker first acknowledges ids of its file, the search for dead letters skips its first turn.
+fn wait_at_start(dead: &mut Option<DeadLetterSearch>, acknowledges: bool)
+    ensures some { is_some dead.new ≡ is_some dead.old }
+    ensures waits { IsTrue acknowledges → IfSome dead.new (λ search. search.waits ≡ true) }
+{
+    if acknowledges && let Some(dead) = dead {
+        dead.wait_once();
+    }
+}
+
 /// Shows the counts at the end.
-fn show_report(rt: &HostRuntime, report: &Report) -> Result<()> {
+fn show_report<T: Eprint>(rt: &T, report: &Report) -> Result<()> {
     eprintln!(rt; "{report}")?;
     Ok(())
 }
@@ -201,7 +280,10 @@ fn make_search(
     alloc: Global,
     settings: &mut Settings,
     to: Option<GiveUp>,
-) -> Result<Option<DeadLetterSearch>> {
+) -> Result<Option<DeadLetterSearch>>
+    ensures settings { OnOk result (settings.new ≡ settings_with to settings.old) }
+    ensures search { IfOk result (λ search. is_some search ≡ is_some to) }
+{
     match to {
         Some(to) => Ok(Some(DeadLetterSearch::new(alloc, settings, to)?)),
         None => Ok(None),

@@ -1,4 +1,4 @@
-use Rattle.std.proofs.Common.{◌≡◌, ◌+◌, ◌≤◌, ◌-◌, Some, ap, arith, length, rules, sym, ◌∙◌}
+use Rattle.std.proofs.Common.{◌≡◌, ◌+◌, Some, ap, arith, rules, ◌∙◌}
 use Rattle.worker_journal.specs.Holds.{committed_in}
 use Rattle.stream_drain.specs.There.{begun, found_in}
 use Rattle.stream_drain.proofs.ThereLemmas.{read_shows}
