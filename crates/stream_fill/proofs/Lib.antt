@@ -1,3 +1,4 @@
 pub mod BaseLemmas
 pub mod KeepLemmas
-pub mod TakenLemmas
+pub mod LinesLemmas
+pub mod ReaderLemmas

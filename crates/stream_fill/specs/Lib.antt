@@ -2,4 +2,5 @@
 pub mod Options
 pub mod Base
 pub mod Filled
+pub mod Placed
 pub mod Taken

@@ -1,23 +1,22 @@
 //! A file of lines as a source of records.
-ghost use Rattle.std.specs.Prelude.{◌≡◌, [], ◌∷◌, None, IfOk};
+ghost use Rattle.std.specs.Prelude.{◌≡◌, ◌≢◌, ◌≤◌, ◌↔◌, ◌⊎◌, [], ◌∷◌, ◌++◌, ℕ, All, IfOk, IfSome, IsTrue, OnOk, drop, length, map, take};
+ghost use Rattle.std.specs.Option.{ForSome};
+ghost use Rattle.worker_journal.specs.LastLines.{lines_of};
 ghost use Rattle.worker_producer.specs.Records.{fields_of};
-ghost use Rattle.stream_fill.specs.Taken.{IsRecordOf, TakesLines};
+ghost use Rattle.stream_fill.specs.Placed.{IsPlace, torn_of};
+ghost use Rattle.stream_fill.specs.Taken.{AreRecordsOf, IsRecordOf, records_of};
 
+use crate::byte_file::ByteFile;
 use crate::json_records::record_of_json;
-use crate::split::split_at_byte;
+use crate::line_reader::{LineReader, Place};
 use anyhow::{Context, Error, Result, anyhow, bail};
 use json::Scratch;
-use memchr::memchr_iter;
 use std::alloc::{AllocError, Global};
 use std::fs::File;
-use std::io::{BufRead, BufReader, Seek, SeekFrom};
 use std::rt::Files;
 use worker_producer::{NotRead, Record, Source};
 
-/// How many bytes of the file are read at once.
-const PIECE: usize = 65_536;
-
-/// Remembers the file offset of every 65,536th line.
+/// Remembers the place of every 65,536th line.
 const STEP: u64 = 65_536;
 
 /// The form of a line.
@@ -34,18 +33,19 @@ pub enum Form {
 struct Ahead {
     /// How many records are before them.
     behind: u64,
+    /// How many were asked for.
+    most: usize,
     records: Vec<Record>,
+    ghost within: { length records.items ≤ most },
 }
 
 /// A file of lines, each of which is a record. Lines that are appended after it was opened are not read.
 #[derive(Drop)]
-pub struct Lines {
-    file: BufReader<File>,
+pub struct Lines<F: ByteFile + Drop> {
+    reader: LineReader<F>,
     form: Form,
-    /// The offset of each line whose number, counted from 0, is a multiple of `STEP`.
-    places: Vec<u64>,
-    /// The number of the line that is read next, counted from 0; `None` if it is unknown.
-    before: Option<u64>,
+    /// The place of each line whose number, counted from 0, is a multiple of `STEP`.
+    places: Vec<Place>,
     /// The line that was read last; its buffer is reused for the next one.
     line: Vec<u8>,
     scratch: Scratch,
@@ -57,226 +57,189 @@ pub struct Lines {
     pub is_torn: bool,
     /// The error of the last read that failed.
     pub fault: Option<Error>,
+    ghost placed: { ForSome (F.bytes reader.file) (λ all. All (IsPlace all) places.items) },
+    ghost ahead_read: { ForSome (F.bytes reader.file) (λ all. ForSome ahead (λ a.
+        ∥ AreRecordsOf form (take a.most (drop a.behind (lines_of all))) a.records.items ∥₁)) },
+    ghost counted: { ForSome (F.bytes reader.file) (λ all. count ≡ length (lines_of all)) },
+    ghost torn: { ForSome (F.bytes reader.file) (λ all. IsTrue is_torn ↔ (torn_of all ≢ [])) },
 }
 
-impl Lines {
+impl Lines<File> {
     /// Opens the file of this path, and counts its lines.
     pub fn open<R: Files<File = File> + AllocGlobal>(
         rt: &R,
         path: &str,
         form: Form,
-    ) -> Result<Lines>
-        ensures { IfOk result (λ lines. lines.before ≡ None) }
+    ) -> Result<Lines<File>>
+        ensures { IfOk result (λ lines. lines.form ≡ form) }
     {
-        let alloc = rt.alloc();
         let file = File::open(rt, path).context(format_args!("cannot open {path}"))?;
-        let mut lines = Lines {
-            file: BufReader::with_capacity(alloc, PIECE, file)?,
-            form,
-            places: Vec::new(alloc),
-            before: None,
-            line: Vec::new(alloc),
-            scratch: Scratch::new(alloc),
-            ahead: None,
-            count: 0,
-            is_torn: false,
-            fault: None,
-        };
-        lines.count_all()?;
-        lines.before = None;
-        Ok(lines)
-    }
-
-    /// Counts the lines, and stores offsets.
-    fn count_all(&mut self) -> Result<()> {
-        self.places.push(0)?;
-        let mut place = 0u64;
-        for _ in 0..u64::MAX {
-            place = self.count_buffered(place)?;
-            if !self.read_next_line()? {
-                self.is_torn = !self.line.is_empty();
-                return Ok(());
-            }
-            place = place
-                .saturating_add(self.line.len() as u64)
-                .saturating_add(1);
-            count_line(&mut self.count, &mut self.places, place)?;
-        }
-        bail!("the file has no end")
-    }
-
-    /// Counts the whole lines in the buffer, which begins at this offset of the file. Returns the offset of the next
-    /// line.
-    fn count_buffered(&mut self, begin: u64) -> Result<u64> {
-        let Ok(piece) = self.file.fill_buf() else {
-            return Ok(begin);
-        };
-        let mut len = 0usize;
-        for end in memchr_iter(b'\n', piece) {
-            len = end.saturating_add(1);
-            let place = begin.saturating_add(len as u64);
-            count_line(&mut self.count, &mut self.places, place)?;
-        }
-        self.file.consume(len);
-        Ok(begin.saturating_add(len as u64))
-    }
-
-    /// Reads the next line, without its line end. Returns false if there is no line end.
-    fn read_next_line(&mut self) -> Result<bool> {
-        self.line.clear();
-        let _len = self
-            .file
-            .read_until(b'\n', &mut self.line)
-            .context("cannot read the file")?;
-        if self.line.last() == Some(&b'\n') {
-            let _end = self.line.pop();
-            Ok(true)
-        } else {
-            Ok(false)
-        }
-    }
-
-    /// Seeks to the line after the first `behind` ones.
-    fn seek_line(&mut self, behind: u64) -> Result<()> {
-        if self.before == Some(behind) {
-            return Ok(());
-        }
-        self.before = None;
-        let Some(place) = self.places.get((behind / STEP) as usize) else {
-            bail!("the file is too short");
-        };
-        let _place = self
-            .file
-            .seek(SeekFrom::Start(*place))
-            .context("cannot read the file")?;
-        for _ in 0..behind % STEP {
-            if !self.read_next_line()? {
-                bail!("the file became shorter");
-            }
-        }
-        Ok(())
-    }
-
-    /// The records after the first `behind` ones, at most `most` of them.
-    fn read_from(&mut self, alloc: Global, behind: u64, most: usize) -> Result<Vec<Record>> {
-        let mut records = Vec::new(alloc);
-        if behind < self.count {
-            self.seek_line(behind)?;
-            self.before = None;
-            let left = self.count.saturating_sub(behind).min(most as u64);
-            self.read_records(alloc, &mut records, behind, left)?;
-            self.before = Some(behind.saturating_add(left));
-        }
-        Ok(records)
-    }
-
-    /// Reads the next lines as records, up to this number.
-    fn read_records(
-        &mut self,
-        alloc: Global,
-        records: &mut Vec<Record>,
-        behind: u64,
-        most: u64,
-    ) -> Result<()> {
-        for _ in 0..most {
-            self.read_buffered(alloc, records, behind, most)?;
-            if records.len() as u64 >= most {
-                return Ok(());
-            }
-            if !self.read_next_line()? {
-                bail!("the file became shorter");
-            }
-            let number = find_next_number(records, behind);
-            records.push(parse_record(alloc, &self.form, &mut self.scratch, &self.line, number)?)?;
-        }
-        Ok(())
-    }
-
-    /// Reads the whole lines in the buffer as records, up to this number.
-    fn read_buffered(
-        &mut self,
-        alloc: Global,
-        records: &mut Vec<Record>,
-        behind: u64,
-        most: u64,
-    ) -> Result<()> {
-        let Ok(piece) = self.file.fill_buf() else {
-            return Ok(());
-        };
-        let scratch = &mut self.scratch;
-        let rest = take_lines(alloc, &self.form, scratch, piece, records, behind, most)?;
-        let len = piece.len().saturating_sub(rest.len());
-        self.file.consume(len);
-        Ok(())
+        Lines::new(rt.alloc(), file, form)
     }
 }
 
-impl Source for Lines {
-    ghost records = { λ _. None };
+impl<F: ByteFile + Drop> Lines<F> {
+    /// Counts the lines of this file.
+    pub fn new(alloc: Global, file: F, form: Form) -> Result<Lines<F>>
+        ensures file { IfOk result (λ lines. F.bytes lines.reader.file ≡ F.bytes file) }
+        ensures form { IfOk result (λ lines. lines.form ≡ form) }
+    {
+        let mut reader = LineReader::new(alloc, file);
+        let places = find_places(alloc, &mut reader)?;
+        let count = reader.place().number;
+        let is_torn = !reader.waiting().is_empty();
+        Ok(Lines {
+            reader,
+            form,
+            places,
+            line: Vec::new(alloc),
+            scratch: Scratch::new(alloc),
+            ahead: None,
+            count,
+            is_torn,
+            fault: None,
+        })
+    }
 
-    fn read(&mut self, alloc: Global, behind: u64, most: usize) -> Result<Vec<Record>, NotRead> {
-        let mut records = match self.ahead.take() {
-            Some(ahead) if ahead.behind == behind => ahead.records,
+    /// The records after the first `behind` ones, at most `most` of them.
+    fn read_from(&mut self, alloc: Global, behind: u64, most: usize) -> Result<Vec<Record>>
+        ensures file { F.bytes self.new.reader.file ≡ F.bytes self.old.reader.file }
+        ensures form { self.new.form ≡ self.old.form }
+        ensures records { IfOk result (λ rs. ForSome (F.bytes self.new.reader.file) (λ all.
+            AreRecordsOf self.new.form (take most (drop behind (lines_of all))) rs.items)) }
+        ensures most { IfOk result (λ rs. length rs.items ≤ most) }
+    {
+        let left = self.count.saturating_sub(behind).min(most as u64);
+        if left == 0 {
+            return Ok(Vec::new(alloc));
+        }
+        seek_line(&mut self.reader, &self.places, behind)?;
+        let (line, scratch) = (&mut self.line, &mut self.scratch);
+        read_records(alloc, &mut self.reader, &self.form, line, scratch, left)
+    }
+}
+
+impl<F: ByteFile + Drop> Source for Lines<F> {
+    ghost records = { λ lines. records_of lines.form (F.bytes lines.reader.file) };
+
+    fn read(&mut self, alloc: Global, behind: u64, most: usize) -> Result<Vec<Record>, NotRead>
+        ensures ok { IfOk result (λ rs. IfSome (records_of self.old.form (F.bytes self.old.reader.file)) (λ all.
+            map fields_of rs.items ≡ take most (drop behind all))) }
+        ensures lines { IfOk result (λ rs. ForSome (F.bytes self.old.reader.file) (λ all.
+            AreRecordsOf self.old.form (take most (drop behind (lines_of all))) rs.items)) }
+        ensures most { IfOk result (λ rs. length rs.items ≤ most) }
+        ensures same { records_of self.new.form (F.bytes self.new.reader.file)
+            ≡ records_of self.old.form (F.bytes self.old.reader.file) }
+    {
+        match self.ahead.take() {
+            Some(ahead) if ahead.behind == behind && ahead.most == most => Ok(ahead.records),
             _ => match self.read_from(alloc, behind, most) {
-                Ok(records) => records,
+                Ok(records) => Ok(records),
                 Err(fault) => {
                     self.fault = Some(fault);
-                    return Err(NotRead);
+                    Err(NotRead)
                 }
             },
-        };
-        records.truncate(most);
-        Ok(records)
+        }
     }
 
     fn read_ahead(&mut self, alloc: Global, behind: u64, most: usize) {
         self.ahead = match self.read_from(alloc, behind, most) {
-            Ok(records) => Some(Ahead { behind, records }),
+            Ok(records) => Some(Ahead {
+                behind,
+                most,
+                records,
+            }),
             Err(_fault) => None,
         };
     }
 }
 
-/// Takes the whole lines in these bytes as records, up to this number. Returns the bytes after them.
-#[tactic(auto, using(crate::proofs::TakenLemmas::none_taken, crate::proofs::TakenLemmas::one_more_taken))]
-fn take_lines<'a>(
-    alloc: Global,
-    form: &Form,
-    scratch: &mut Scratch,
-    piece: &'a [u8],
-    records: &mut Vec<Record>,
-    behind: u64,
-    most: u64,
-) -> Result<&'a [u8]>
-    ensures { IfOk result (λ rest. TakesLines form.now piece.entry.now rest.now records.old.items
-        records.new.items) }
+/// Passes over all lines, and returns places.
+fn find_places<F: ByteFile + Drop>(alloc: Global, reader: &mut LineReader<F>) -> Result<Vec<Place>>
+    ensures file { F.bytes reader.new.file ≡ F.bytes reader.old.file }
+    ensures places { IfOk result (λ places. ForSome (F.bytes reader.new.file) (λ all.
+        All (IsPlace all) places.items)) }
+    ensures count { IfOk result (λ _. ForSome (F.bytes reader.new.file) (λ all.
+        reader.new.place.number ≡ length (lines_of all))) }
+    ensures torn { IfOk result (λ _. ForSome (F.bytes reader.new.file) (λ all.
+        drop reader.new.begin reader.new.buffer.items ≡ torn_of all)) }
 {
-    let mut rest = piece;
-    for _line in records.len() as u64..most {
-        let Some((line, after)) = split_at_byte(rest, b'\n') else {
-            break;
-        };
-        let number = find_next_number(records, behind);
-        records.push(parse_record(alloc, form, scratch, line, number)?)?;
-        rest = after;
+    let mut places = Vec::new(alloc);
+    for _ in 0..u64::MAX {
+        let place = reader.place();
+        store_place(&mut places, place)?;
+        if !reader.pass_lines(STEP - place.number % STEP)? {
+            return Ok(places);
+        }
     }
-    Ok(rest)
+    bail!("the file has no end")
 }
 
-/// Counts a line after which the next one begins at this offset.
-fn count_line(count: &mut u64, places: &mut Vec<u64>, place: u64) -> Result<(), AllocError> {
-    *count = count.saturating_add(1);
-    if *count % STEP == 0 {
+/// Stores the place if its number is a multiple of `STEP`.
+fn store_place(places: &mut Vec<Place>, place: Place) -> Result<(), AllocError>
+    ensures { OnOk result ((places.new.items ≡ places.old.items)
+        ⊎ (places.new.items ≡ places.old.items ++ place ∷ [])) }
+{
+    if place.number % STEP == 0 {
         places.push(place)?;
     }
     Ok(())
 }
 
-/// The number of the next line, if these records were read after the first `behind` ones.
-fn find_next_number(records: &Vec<Record>, behind: u64) -> u64 {
-    behind
-        .saturating_add(records.len() as u64)
-        .saturating_add(1)
+/// Goes to the line after the first `behind` ones.
+fn seek_line<F: ByteFile + Drop>(
+    reader: &mut LineReader<F>,
+    places: &[Place],
+    behind: u64,
+) -> Result<()>
+    requires { ForSome (F.bytes reader.old.file) (λ all. All (IsPlace all) places.now) }
+    ensures file { F.bytes reader.new.file ≡ F.bytes reader.old.file }
+    ensures place { OnOk result (reader.new.place.number ≡ behind) }
+{
+    if reader.place().number == behind {
+        return Ok(());
+    }
+    let place = match places.get((behind / STEP) as usize) {
+        Some(place) if place.number <= behind => *place,
+        _ => bail!("the file is too short"),
+    };
+    reader.seek(place);
+    for _ in 0..u64::MAX {
+        let left = behind - reader.place().number;
+        if left == 0 {
+            return Ok(());
+        }
+        if !reader.pass_lines(left)? {
+            bail!("the file became shorter");
+        }
+    }
+    bail!("the file has no end")
+}
+
+/// Reads the next `count` lines as records.
+fn read_records<F: ByteFile + Drop>(
+    alloc: Global,
+    reader: &mut LineReader<F>,
+    form: &Form,
+    line: &mut Vec<u8>,
+    scratch: &mut Scratch,
+    count: u64,
+) -> Result<Vec<Record>>
+    ensures file { F.bytes reader.new.file ≡ F.bytes reader.old.file }
+    ensures records { IfOk result (λ rs. ForSome (F.bytes reader.new.file) (λ all. AreRecordsOf form.now
+        (take count (drop reader.old.place.number (lines_of all))) rs.items)) }
+    ensures count { IfOk result (λ rs. length rs.items ≡ count) }
+{
+    let mut records = Vec::new(alloc);
+    for _read in 0..count {
+        if !reader.read_line(line)? {
+            bail!("the file became shorter");
+        }
+        let number = reader.place().number;
+        records.push(parse_record(alloc, form, scratch, line, number)?)?;
+    }
+    Ok(records)
 }
 
 /// The record of the line with this number.

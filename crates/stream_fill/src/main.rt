@@ -19,10 +19,12 @@
 ghost use Rattle.std.specs.Prelude.{◌≡◌, IfOk, IfSome, IsErr, IsOk, OnErr, OnOk};
 ghost use Rattle.std.specs.Process.{exit_status};
 
+mod byte_file;
 mod counts;
 mod fill;
 mod json_records;
 mod kept_base;
+mod line_reader;
 mod lines;
 mod options;
 mod split;
