@@ -1,4 +1,5 @@
-"""The workers that tools/compare/compare-kills kills: their programs, how their jobs are added, and where a broker has jobs."""
+"""The workers that tools/compare/compare-kills kills: their programs, how their jobs are added, and where a broker has
+jobs."""
 import json
 import socket
 import sys
@@ -96,7 +97,8 @@ SCRIPTS = {"work.py": WORK, "by_redis_py.py": BY_REDIS_PY, "handle.py": IN_HANDL
 
 
 class Peer(NamedTuple):
-    """A kind of worker: its package, its command, how jobs are added, where the broker has jobs, and its other processes.
+    """A kind of worker: its package, its command, how jobs are added, where the broker has jobs, and its other
+    processes.
 
     It is waited for at least so many seconds.
     """
@@ -108,12 +110,18 @@ class Peer(NamedTuple):
     places: Callable
     others: tuple = ()
     is_redis: bool = True
-    wait: float = 0.0
+    wait: float = 20.0
 
 
 def add_entries(broker, jobs):
     """Adds the entries n-1 to a stream, and makes its group."""
-    broker.ask(*(("XADD", "jobs", f"{n}-1", "n", str(n)) for n in range(1, jobs + 1)), ("XGROUP", "CREATE", "jobs", "g", "0"))
+    broker.ask(*(("XADD", "jobs", f"{n}-1", "n", str(n)) for n in range(1, jobs + 1)),
+               ("XGROUP", "CREATE", "jobs", "g", "0"))
+
+
+def adding(*words):
+    """Returns what adds jobs by a script."""
+    return lambda broker, jobs: broker.run(*words, str(jobs))
 
 
 def of_stream(broker, jobs):
@@ -140,7 +148,8 @@ def of_celery(broker, _):
 def of_sidekiq(broker, _):
     """Which jobs are queued, and which are to be tried again or given up."""
     kept = broker.ask(("LRANGE", "queue:default", "0", "-1"), ("ZRANGE", "retry", "0", "-1"), ("ZRANGE", "dead", "0", "-1"))
-    return dict(zip(("queued", "to be tried again", "dead"), ({json.loads(job)["args"][0] for job in each} for each in kept)))
+    jobs = [{json.loads(job)["args"][0] for job in each} for each in kept]
+    return dict(zip(("queued", "to be tried again", "dead"), jobs))
 
 
 def of_beanstalkd(broker, jobs):
@@ -164,12 +173,12 @@ def redis_py(title, way):
 def celery(title, *late):
     """Returns a worker of Celery."""
     words = ["env", *late, PYTHON, "-m", "celery", "-A", "by_celery", "worker", "-c", "1", "-l", "CRITICAL"]
-    return Peer(title, "celery", lambda it: words, lambda it, jobs: it.run(PYTHON, "by_celery.py", str(jobs)), of_celery, ("",))
+    return Peer(title, "celery", lambda it: words, adding(PYTHON, "by_celery.py"), of_celery, ("",))
 
 
 def run_words(broker):
     """Returns the words of 'jagyerti run', with the handler."""
-    return [sys.executable, "-I", JAGYERTI, "run", f"redis://127.0.0.1:{broker.port}", "jobs", "g", "c", "--",
+    return [sys.executable, "-I", JAGYERTI, "run", broker.server.url, "jobs", "g", "c", "--",
             sys.executable, "handle.py"]
 
 
@@ -179,13 +188,14 @@ PEERS = {
     "redis-py-noack": redis_py("redis-py, NOACK", "noack"),
     "jagyerti": Peer("`jagyerti run`", "", run_words, add_entries, of_stream, ("stream_run", "handle.py")),
     "beanstalkd": Peer("beanstalkd", "beanstalkd", lambda it: [PYTHON, "by_beanstalkd.py"],
-                       lambda it, jobs: it.run(PYTHON, "by_beanstalkd.py", str(jobs)), of_beanstalkd, is_redis=False),
-    "rq": Peer("RQ", "python3-rq", lambda it: [PYTHON, "/usr/bin/rq", "worker", "--quiet", "--url", f"redis://127.0.0.1:{it.port}"],
-               lambda it, jobs: it.run(PYTHON, "add_rq.py", str(jobs)), of_rq, ("",)),
+                       adding(PYTHON, "by_beanstalkd.py"), of_beanstalkd, is_redis=False),
+    "rq": Peer("RQ", "python3-rq", lambda it: [PYTHON, "/usr/bin/rq", "worker", "--quiet", "--url", it.server.url],
+               adding(PYTHON, "add_rq.py"), of_rq, ("",)),
     "celery": celery("Celery"),
     "celery-late": celery("Celery, `acks_late`", "LATE=1"),
     # (it looks for messages whose timeout is over each hundred seconds)
-    "celery-short": celery("Celery, the same with `reject_on_worker_lost` and a timeout of 5 s", "LATE=1", "TIMEOUT=5")._replace(wait=130),
+    "celery-short": celery("Celery, the same with `reject_on_worker_lost` and a timeout of 5 s", "LATE=1", "TIMEOUT=5")
+                    ._replace(wait=130),
     "sidekiq": Peer("Sidekiq", "ruby-sidekiq", lambda it: ["sidekiq", "-r", "./by_sidekiq.rb", "-c", "1"],
-                    lambda it, jobs: it.run("ruby", "by_sidekiq.rb", str(jobs)), of_sidekiq),
+                    adding("ruby", "by_sidekiq.rb"), of_sidekiq),
 }
