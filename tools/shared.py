@@ -297,6 +297,16 @@ def ask_all(server: servers.Server, commands: Iterable[Sequence[resp.Word]]) -> 
         return resp.ask_all(connection, commands)
 
 
+def make_group(server: servers.Server, key: str, group: str, start: str = "0") -> None:
+    """Makes a group anew, whose entries are those after this id."""
+    ask_all(server, [["XGROUP", "DESTROY", key, group], ["XGROUP", "CREATE", key, group, start]])
+
+
+def add_orders(server: servers.Server, number: int) -> None:
+    """Adds so many entries of two fields to the stream `orders`."""
+    ask_all(server, (["XADD", "orders", f"{n}-1", "customer", f"c{n}", "item", "tea"] for n in range(1, number + 1)))
+
+
 def over(port: int, command: str) -> List[str]:
     """The words that run a command of the shell whose standard input and output are a connection to this port."""
     return ["bash", "-c", f"exec 3<>/dev/tcp/127.0.0.1/{port}; exec {command} <&3 >&3"]
