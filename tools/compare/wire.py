@@ -1,24 +1,29 @@
-"""A second reader of the RESP protocol, and the frame in which readers are compared with the program cases: for compare-wire,
-compare-refs, compare-full and compare-hiredis."""
+"""A second reader of the RESP protocol, and the frame in which readers are compared with the program cases: for
+compare-wire, compare-refs, compare-full and compare-hiredis."""
 import collections
 import random
 import re
 import subprocess
-import sys
 import unicodedata
 
 from shared import fail, program_of, text_of, words_of
 
 CASES = "crates/test_cases"
 CHUNK = 50_000
+PRINTED = 4  # so many answers that differ are printed of a sort
 DEPTH, LENGTH, LINE = 128, 536_870_912, 65_536
 NAMED = {9: "\\t", 10: "\\n", 13: "\\r", 92: "\\\\"}  # bytes with a spelling of their own in a case
 SPELLING = re.compile(rb"\\(?:x([0-9a-f]{2})|([rnt\\]))|\\|[^\\]+")
 REFUSED = re.compile(r"refused \w+: [^;]*")
-# How numbers are written that are kept as text: doubles and big numbers.
+SIMPLE, SIZED = (b"+", b"-", b":", b"_", b"#", b",", b"("), (b"$", b"!", b"=", b"*", b"~", b"%", b"|")
+GROUPS = {b"*": "Array", b"~": "Set", b"%": "Map", b"|": "Attribute"}
+# How texts are written that may not be any: doubles, big numbers, nil, booleans, and texts with their format.
 WRITTEN = {
     b",": re.compile(rb"[+-]?[0-9]+(\.[0-9]+)?([eE][+-]?[0-9]+)?|-?inf|-?nan"),
     b"(": re.compile(rb"[+-]?[0-9]+"),
+    b"_": re.compile(b""),
+    b"#": re.compile(b"[tf]"),
+    b"=": re.compile(b".{3}:.*", re.S),
 }
 
 
@@ -84,11 +89,12 @@ def length(data, at):
     return value, at
 
 
-def decoded(text):
+def is_text(data):
     try:
-        return text.decode()
+        data.decode()
     except UnicodeDecodeError:
-        raise Refused from None
+        return False
+    return True
 
 
 def quoted(text):
@@ -106,25 +112,14 @@ def octets(data):
     return "[" + ", ".join(str(c) for c in data) + "]"
 
 
-# A text, or bytes where it is none.
-def text_shown(data):
-    try:
-        return f"SimpleString({quoted(data.decode())})"
-    except UnicodeDecodeError:
-        return f"BulkString({octets(data)})"
+# A reply is its first byte, and what it has: bytes, or for a group a list of replies. Nil is (b"_", b"").
 
 
-def pairs(shown):
-    return "[" + ", ".join(f"({k}, {v})" for k, v in zip(shown[::2], shown[1::2])) + "]"
-
-
-# What stands in a value: how a value is shown, or that it is an error or a group with one, and how this is shown.
-def of_value(shown):
-    return True, shown
-
-
-def of_error(text):
-    return False, f"Error(ServerError {{ text: {octets(text)} }})"
+def bulk(data, at, size):
+    """A text of this size, and the end of it."""
+    if len(data) - at < size:
+        raise Short
+    return data[at : at + size], ended(data, at + size)
 
 
 def value(data, at, depth):
@@ -133,62 +128,21 @@ def value(data, at, depth):
     if at == len(data):
         raise Short
     kind = data[at : at + 1]
-    at += 1
-    if kind in (b"+", b"-", b":", b"_", b"#", b",", b"("):
-        text, at = line(data, at)
-        return of_line(kind, text), at
-    if kind in (b"$", b"!", b"="):
-        count, at = length(data, at)
-        if count is None:
-            if kind != b"$":
-                raise Refused
-            return of_value("Nil"), at
-        if len(data) - at < count:
-            raise Short
-        end = ended(data, at + count)
-        return of_bulk(kind, data[at : at + count]), end
-    if kind in (b"*", b"~", b"%", b"|"):
-        return group(kind, data, at, depth)
-    raise Refused
-
-
-def of_line(kind, text):
-    if kind == b"-":
-        return of_error(text)
-    if kind == b":":
-        return of_value(f"Int({number(text)})")
-    if kind == b"_":
-        if text:
-            raise Refused
-        return of_value("Nil")
-    if kind == b"#":
-        if text not in (b"t", b"f"):
-            raise Refused
-        return of_value("Boolean(true)" if text == b"t" else "Boolean(false)")
-    if kind == b"+" and text == b"OK":
-        return of_value("Okay")
-    if kind in WRITTEN and not WRITTEN[kind].fullmatch(text):
+    if kind in SIMPLE:
+        text, at = line(data, at + 1)
+        return (kind, checked(kind, text)), at
+    if kind not in SIZED:
         raise Refused
-    return of_value(text_shown(text))
-
-
-def of_bulk(kind, text):
-    if kind == b"!":
-        return of_error(text)
-    if kind == b"$":
-        return of_value(f"BulkString({octets(text)})")
-    if len(text) < 4 or text[3:4] != b":":
-        raise Refused
-    try:
-        form, own = text[:3].decode(), text[4:].decode()
-    except UnicodeDecodeError:
-        return of_value(f"BulkString({octets(text[4:])})")
-    return of_value("VerbatimString { format: %s, text: %s }" % (quoted(form), quoted(own)))
-
-
-def reply_shown(member):
-    is_value, shown = member
-    return f"Value({shown})" if is_value else shown
+    size, at = length(data, at + 1)
+    if size is None:
+        if kind not in (b"$", b"*"):
+            raise Refused
+        return (b"_", b""), at
+    if kind in GROUPS:
+        members, at = values(data, at, depth - 1, {b"%": 2 * size, b"|": 2 * size + 1}.get(kind, size))
+        return (kind, members), at
+    text, at = bulk(data, at, size)
+    return (kind, checked(kind, text)), at
 
 
 def values(data, at, depth, count):
@@ -199,63 +153,93 @@ def values(data, at, depth, count):
     return members, at
 
 
-def group(kind, data, at, depth):
-    count, at = length(data, at)
-    if count is None:
-        if kind != b"*":
-            raise Refused
-        return of_value("Nil"), at
-    members, at = values(data, at, depth - 1, {b"%": 2 * count, b"|": 2 * count + 1}.get(kind, count))
-    if not all(is_value for is_value, _ in members):
-        name = {b"*": "Array", b"~": "Set", b"%": "Map", b"|": "Attribute"}[kind]
-        inside = ", ".join(map(reply_shown, members))
-        return (False, f"Group {{ kind: {name}, members: [{inside}] }}"), at
-    shown = [one for _, one in members]
-    if kind == b"*":
-        return of_value(f"Array([{', '.join(shown)}])"), at
-    if kind == b"~":
-        return of_value(f"Set([{', '.join(shown)}])"), at
-    if kind == b"%":
-        return of_value(f"Map({pairs(shown)})"), at
-    return of_value("Attribute { payload: %s, attributes: %s }" % (shown[-1], pairs(shown[:-1]))), at
+def checked(kind, text):
+    """The text of a reply, if it is one of this kind."""
+    if kind == b":":
+        number(text)
+    elif kind in WRITTEN and not WRITTEN[kind].fullmatch(text):
+        raise Refused
+    return text
 
 
-# A message that the server pushes: its kind, a simple or a bulk string that is a text, and values.
 def push(data, at):
+    """A message that the server pushes: its kind, a simple or a bulk string that is a text, and values."""
     count, at = length(data, at)
     if not count:
         raise Refused
     if at == len(data):
         raise Short
-    first = data[at : at + 1]
-    if first == b"+":
+    if data[at : at + 1] not in (b"+", b"$"):
+        raise Refused
+    if data[at : at + 1] == b"+":
         text, at = line(data, at + 1)
-    elif first == b"$":
+    else:
         size, at = length(data, at + 1)
         if size is None:
             raise Refused
-        if len(data) - at < size:
-            raise Short
-        text, at = data[at : at + size], ended(data, at + size)
-    else:
+        text, at = bulk(data, at, size)
+    if not is_text(text):
         raise Refused
-    kind = quoted(decoded(text))
     members, at = values(data, at, DEPTH - 1, count - 1)
-    return f"Push {{ kind: {kind}, payload: [{', '.join(map(reply_shown, members))}] }}", at
+    return (b">", [(b"+", text), *members]), at
+
+
+def read(data):
+    """The reply at the beginning of some bytes, and its end."""
+    return push(data, 1) if data[:1] == b">" else value(data, 0, DEPTH)
+
+
+# How the program shows a reply.
+
+
+def has_error(reply):
+    kind, held = reply
+    return any(map(has_error, held)) if isinstance(held, list) else kind in (b"-", b"!")
+
+
+def shown(reply):
+    """A reply alone, or as a member of what is no value: an error, or a group with one."""
+    kind, held = reply
+    if kind == b">":
+        return f"Push {{ kind: {quoted(held[0][1].decode())}, payload: [{', '.join(map(shown, held[1:]))}] }}"
+    if not has_error(reply):
+        return f"Value({value_shown(reply)})"
+    if isinstance(held, list):
+        return f"Group {{ kind: {GROUPS[kind]}, members: [{', '.join(map(shown, held))}] }}"
+    return f"Error(ServerError {{ text: {octets(held)} }})"
+
+
+def value_shown(reply):
+    kind, held = reply
+    if isinstance(held, list):
+        members = list(map(value_shown, held))
+        pairs = ", ".join(f"({key}, {item})" for key, item in zip(members[::2], members[1::2]))
+        if kind == b"|":
+            return f"Attribute {{ payload: {members[-1]}, attributes: [{pairs}] }}"
+        return f"{GROUPS[kind]}([{pairs if kind == b'%' else ', '.join(members)}])"
+    if kind == b":":
+        return f"Int({int(held)})"
+    if kind == b"_":
+        return "Nil"
+    if kind == b"#":
+        return f"Boolean({'true' if held == b't' else 'false'})"
+    if (kind, held) == (b"+", b"OK"):
+        return "Okay"
+    if kind == b"=" and is_text(held[:3]) and is_text(held[4:]):
+        return f"VerbatimString {{ format: {quoted(held[:3].decode())}, text: {quoted(held[4:].decode())} }}"
+    if kind in (b"$", b"=") or not is_text(held):
+        return f"BulkString({octets(held[4:] if kind == b'=' else held)})"
+    return f"SimpleString({quoted(held.decode())})"
 
 
 def answer(data):
     try:
-        if data[:1] == b">":
-            shown, end = push(data, 1)
-        else:
-            member, end = value(data, 0, DEPTH)
-            shown = reply_shown(member)
+        reply, end = read(data)
     except Short:
         return "incomplete"
     except Refused:
         return "refused"
-    return f"{end} {shown}"
+    return f"{end} {shown(reply)}"
 
 
 def mutated(chosen, data):
@@ -290,9 +274,9 @@ def answers_of(lines):
     return answers if len(answers) == len(lines) else fail(f"{len(answers)} answers to {len(lines)} cases")
 
 
-def stored(kinds, file="stdin"):
-    """The lines of these kinds in the program's stored input, or in its output, as their parts."""
-    lines = [line.split("\t") for line in text_of(f"{CASES}/{file}").split("\n")]
+def stored(kinds):
+    """The lines of these kinds in the program's stored input, as their parts."""
+    lines = [line.split("\t") for line in text_of(f"{CASES}/stdin").split("\n")]
     return [line for line in lines if line[0] in kinds]
 
 
@@ -302,31 +286,33 @@ def stored_bytes(kinds):
     return [case for case in cases if case[1] is not None]
 
 
-def compare(count, seed, cases, form, shown, read):
-    """Changes cases at random, so many, and compares what the program says of each with what is read here. Takes the cases; what
-    changes one, which is given its number and a source of chance; how one is spelled as a line of cases; and what reads one
-    and returns what is read here, the sort of that, and whether it is the same as what the program says."""
-    chance, tally, differ = random.Random(seed), collections.Counter(), 0
+def spelled_case(case):
+    """A kind and bytes as a line of cases."""
+    return case[0], spelled(case[1])
+
+
+def compare(count, seed, cases, form, spell, read):
+    """Changes cases at random, so many, and compares what the program says of each with what is read here.
+
+    Takes the cases; what changes one, which is given its number and a source of chance; how one is spelled as a line of
+    cases; and what reads one, and returns what is read here, the sort of that, and whether it is the same as what the
+    program says. Prints some that differ, and returns how many do of each sort."""
+    chance, tally, apart = random.Random(seed), collections.Counter(), collections.Counter()
     for done in range(0, count, CHUNK):
         changed = [form(number, chance, chance.choice(cases)) for number in range(min(CHUNK, count - done))]
-        for case, theirs in zip(changed, answers_of([shown(case) for case in changed])):
+        for case, theirs in zip(changed, answers_of([spell(case) for case in changed])):
             ours, sort, is_same = read(case, theirs)
             tally[sort] += 1
-            if not is_same:
-                differ += 1
+            apart[sort] += not is_same
+            if not is_same and apart[sort] <= PRINTED:
                 print(case, "\n  here:    ", ours[:300], "\n  program: ", theirs[:300])
-    print(f"{count} mutations, {dict(tally)}: {differ} answers differ")
-    return 1 if differ else 0
+    print(f"{count} mutations, {dict(tally)}: {apart.total()} answers differ")
+    return apart
 
 
-def run(doc, answer, compare):
-    """Does what the words of a tool say: prints the lines of standard input, with the answer to each, or compares."""
+def run(doc, *how):
+    """Does what the words of a tool say. Returns its status."""
     words = words_of(doc, "WHAT", ("COUNT", 0), ("SEED", 0))
-    if words.WHAT not in ("read", "mutations"):
-        fail("WHAT is read or mutations")
-    if words.WHAT == "mutations":
-        return compare(words.COUNT, words.SEED)
-    for line in sys.stdin:
-        kind, text = line.rstrip("\n").split("\t")[:2]
-        print(f"{kind}\t{text}\t{answer(kind, text)}")
-    return 0
+    if words.WHAT != "mutations":
+        fail("WHAT is mutations")
+    return 1 if compare(words.COUNT, words.SEED, *how).total() else 0
