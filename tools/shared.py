@@ -251,16 +251,6 @@ def begun_below(top: int) -> List[int]:
     return pids[1:]
 
 
-def child_of(ran: "subprocess.Popen[bytes]") -> Optional[int]:
-    """The first process that a command has begun, once it has; None if the command ended before."""
-    while ran.poll() is None:
-        with contextlib.suppress(OSError):
-            if found := text_of(f"/proc/{ran.pid}/task/{ran.pid}/children").split():
-                return int(found[0])
-        time.sleep(0.001)
-    return None
-
-
 def begin(*works: Callable[[], object]) -> List[threading.Thread]:
     """Does each work in a thread of its own, which ends with the process."""
     threads = [threading.Thread(target=work, daemon=True) for work in works]
