@@ -204,7 +204,7 @@ def until(holds: Callable[[], object], seconds: float, what: str) -> None:
     """Waits until this holds."""
     end = time.monotonic() + seconds
     while time.monotonic() < end:
-        with contextlib.suppress(OSError, resp.ReplyError):
+        with contextlib.suppress(OSError, resp.ReplyError, connect.Failed):
             if holds():
                 return
         time.sleep(0.1)
