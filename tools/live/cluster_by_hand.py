@@ -6,7 +6,8 @@ usage: cluster_by_hand.py fill NODES NAME PARTITIONS FILE SKIP      adds the lin
 
 NODES is HOST:PORT,HOST:PORT.., and WHICH is numbers with commas between them. 'fill' sends fifty records at once, and
 sends them again if the client tells an error. 'drain' writes each entry into FILE.N, has the disk take the lines in, and
-acknowledges them then. After an error it begins with what is pending for it. tools/live/cluster-live --redis-py runs both.
+acknowledges them then. After an error it begins with what is pending for it. 'tools/live/cluster-live --redis-py' runs
+both.
 """
 import os
 import signal
@@ -35,17 +36,15 @@ class Client:
             self.made = RedisCluster(startup_nodes=[ClusterNode(*node) for node in self.nodes], socket_timeout=5)
         return self.made
 
-    def again(self, work):
-        """Does it until the client tells no error."""
+    def again(self, work, after=lambda: None):
+        """Does it until the client tells no error, and something else after each error."""
         while True:
             try:
                 return work()
             except Exception:
-                self.fails()
-
-    def fails(self):
-        self.made = None
-        time.sleep(PAUSE)
+                self.made = None
+                time.sleep(PAUSE)
+                after()
 
 
 def fill(client, name, partitions, file, skip):
@@ -79,22 +78,21 @@ class Drained:
 
     def turn(self):
         """Takes a batch; whether there was one."""
-        try:
-            told = self.client().xreadgroup(GROUP, CONSUMER, {self.key: self.start}, count=100)
-            entries = told[0][1] if told else []
-            if not entries:
-                was_pending, self.start = self.start != ">", ">"
-                return was_pending
-            self.file.write(b"".join(fields[b"line"] + b"\n" for _id, fields in entries if fields))
-            self.file.flush()
-            os.fsync(self.file.fileno())
-            self.client().xack(self.key, GROUP, *(id for id, _fields in entries))
-            return True
-        except Exception:
-            self.start = "0"
-            self.client.fails()
-            self.client.again(self.begin)
-            return True
+        told = self.client().xreadgroup(GROUP, CONSUMER, {self.key: self.start}, count=100)
+        entries = told[0][1] if told else []
+        if not entries:
+            was_pending, self.start = self.start != ">", ">"
+            return was_pending
+        self.file.write(b"".join(fields[b"line"] + b"\n" for _id, fields in entries if fields))
+        self.file.flush()
+        os.fsync(self.file.fileno())
+        self.client().xack(self.key, GROUP, *(id for id, _fields in entries))
+        return True
+
+    def begin_again(self):
+        """Begins with what is pending."""
+        self.start = "0"
+        self.client.again(self.begin)
 
 
 def drain(client, name, file, which, *words):
@@ -104,7 +102,7 @@ def drain(client, name, file, which, *words):
     for part in parts:
         client.again(part.begin)
     while True:
-        took = [part.turn() for part in parts]
+        took = [client.again(part.turn, part.begin_again) for part in parts]
         if told:
             sys.exit(128 + signal.SIGTERM)
         if not any(took):
