@@ -15,6 +15,8 @@ import time
 from shared import TOOL, begun_below, resp
 
 UNCUT = None, math.inf
+# The words of a server that has its log on the disk before it replies.
+LOGGED = ("--appendonly", "yes", "--appendfsync", "always")
 
 
 # Lines.

@@ -6,6 +6,7 @@ import base64
 import contextlib
 import dataclasses
 import itertools
+import json
 import os
 import re
 import resource
@@ -279,6 +280,11 @@ def shown(text: bytes) -> Union[str, Dict[str, str]]:
         return text.decode()
     except UnicodeDecodeError:
         return {"base64": base64.b64encode(text).decode()}
+
+
+def as_json(value: Any) -> str:
+    """A value as the programs' JSON has it, in which a text that is not UTF-8 is as `shown` has it."""
+    return json.dumps(value, ensure_ascii=False, separators=(",", ":"))
 
 
 def ask_all(server: servers.Server, commands: Iterable[Sequence[resp.Word]]) -> List[Any]:
