@@ -1,4 +1,4 @@
-"""What the tools share: their words and their ends, clocks, tables, processes, connections, and sessions of programs."""
+"""What the tools share: words and ends, clocks, tables, processes, connections, and sessions of programs."""
 from __future__ import annotations
 
 import argparse
@@ -37,19 +37,22 @@ def words_of(doc: Optional[str], *places: Place, **options: Any) -> argparse.Nam
     """Reads the words of a tool, whose `doc` is printed at --help, and at other words, with which it ends with 2.
 
     A place is a name, with ? if it may be left out and with * for any number of words, or a name and the number that it
-    is without a word. The usual value of an option says what it takes: False takes nothing, None and '' a text, a number a
-    number, a list of one number some numbers, and an empty list all words after it.
+    is without a word. The usual value of an option says what it takes: False takes nothing, None and '' a text, a
+    number a number, and an empty list all words after it, or None without it.
     """
     parser = argparse.ArgumentParser()
     parser.format_help = parser.format_usage = lambda: f"{(doc or '').strip()}\n"  # type: ignore[method-assign]
     for place in places:
         name = place.rstrip("?*+") if isinstance(place, str) else place[0]
-        more = {"nargs": place[len(name):] or None} if isinstance(place, str) else {"nargs": "?", "default": place[1], "type": natural}
-        parser.add_argument(name, **more)  # type: ignore[arg-type]
+        more: Dict[str, Any] = {"nargs": place[len(name):] or None} if isinstance(place, str) else {
+            "nargs": "?", "default": place[1], "type": natural}
+        parser.add_argument(name, **more)
     for name, usual in options.items():
-        kind = {"action": "store_true"} if usual is False else {"default": usual, "type": str if usual is None else type(usual)}
+        kind: Dict[str, Any] = {"default": usual, "type": str if usual is None else type(usual)}
+        if usual is False:
+            kind = {"action": "store_true"}
         if isinstance(usual, list):
-            kind = {"default": [], "nargs": "+", "type": int} if usual else {"nargs": argparse.REMAINDER}
+            kind = {"nargs": argparse.REMAINDER}
         parser.add_argument(f"--{name.replace('_', '-')}", **kind)
     return parser.parse_args()
 
@@ -75,7 +78,7 @@ def want(*names: str) -> None:
 
 
 def program_of(crate: str, given: Optional[str] = None) -> str:
-    """The given program, or the one of this name in JAGYERTI_PROGRAMS, or that 'rt run' builds; ends with 2 if there is none."""
+    """The given program, or that of this name in JAGYERTI_PROGRAMS, or that 'rt run' builds; ends with 2 if none is."""
     folder = os.environ.get("JAGYERTI_PROGRAMS") or f"{ROOT}/crates/{crate}/out"
     path = os.path.abspath(given or f"{folder}/{crate}")
     return path if os.path.isfile(path) else fail(f"{path} is not there: 'rt run' in crates/{crate} makes it")
@@ -92,14 +95,15 @@ def find_program(name: str, given: Optional[str] = None) -> str:
 def compiled(folder: str, source: str, *words: str) -> Optional[str]:
     """The path of what cc makes of a file of tools/, None if it makes nothing."""
     path = f"{folder}/{os.path.basename(source)}.out"
-    ran = subprocess.run(["cc", "-O2", "-o", path, os.path.join(TOOLS, source), *words], stderr=subprocess.DEVNULL, check=False)
-    return path if ran.returncode == 0 else None
+    command = ["cc", "-O2", "-o", path, os.path.join(TOOLS, source), *words]
+    return path if subprocess.run(command, stderr=subprocess.DEVNULL, check=False).returncode == 0 else None
 
 
 def python_with(module: str) -> Optional[str]:
     """An interpreter that has this module, None if there is none."""
     for python in (sys.executable, "/usr/bin/python3"):
-        if os.path.exists(python) and not subprocess.run([python, "-c", f"import {module}"], stderr=subprocess.DEVNULL, check=False).returncode:
+        command = [python, "-c", f"import {module}"]
+        if os.path.exists(python) and not subprocess.run(command, stderr=subprocess.DEVNULL, check=False).returncode:
             return python
     return None
 
@@ -161,7 +165,7 @@ def taken(work: Callable[[], object]) -> Tuple[float, float]:
 
 
 def figures(command: Sequence[str], pattern: str, preload: str = "") -> List[int]:
-    """The numbers that standard error of a run has at this pattern, with a library preloaded; ChildProcessError if it has none."""
+    """The numbers that standard error of a run has at this pattern, with a library preloaded, or ChildProcessError."""
     env = {**os.environ, "LD_PRELOAD": preload} if preload else None
     ran = subprocess.run(command, env=env, capture_output=True, text=True, check=False)
     found = re.search(pattern, ran.stderr)
@@ -181,9 +185,10 @@ def instructions_of(command: Sequence[str]) -> int:
     return figures([*cachegrind, *command], r"I +refs: +([\d,]+)")[0]
 
 
-def in_turn(ways: Dict[str, Callable[[], Sequence[float]]], runs: int, fold: Callable[[Any], float] = min) -> Dict[str, List[float]]:
-    """Goes these ways in turn, so often, from the other end each second time. Returns what each took at best, or folded otherwise."""
-    took: Dict[str, List[Sequence[float]]] = {name: [] for name in ways}
+def in_turn(ways: Dict[Any, Callable[[], Sequence[float]]], runs: int,
+            fold: Callable[[Any], float] = min) -> Dict[Any, List[float]]:
+    """Goes these ways in turn, so often, from the other end each second time. Returns what each took, folded."""
+    took: Dict[Any, List[Sequence[float]]] = {name: [] for name in ways}
     for turn in range(runs):
         for name in list(ways)[::-1] if turn % 2 else list(ways):
             took[name].append(ways[name]())
@@ -244,7 +249,7 @@ def below(top: int, found: Dict[int, Process]) -> List[int]:
 
 
 def begun_below(top: int) -> List[int]:
-    """The processes below this one whose parents began them in their first thread. To look takes less than a millisecond."""
+    """The processes below this one, begun in the first thread of their parents. It takes less than a millisecond."""
     pids = [top]
     for pid in pids:
         with contextlib.suppress(OSError):
@@ -321,7 +326,7 @@ def listen(take: Callable[[socket.socket], object]) -> int:
 
 
 def says(replies: bytes, ends: bool = True, asked: Optional[bytearray] = None) -> Callable[[socket.socket], None]:
-    """Takes a connection: says this, whatever is asked, and adds that to `asked`. Its own side is over then if it ends."""
+    """Takes a connection: says this, whatever is asked, which is added to `asked`. Its side is over then if it ends."""
     def take(client: socket.socket) -> None:
         client.sendall(replies)
         if ends:
@@ -333,9 +338,9 @@ def says(replies: bytes, ends: bool = True, asked: Optional[bytearray] = None) -
 
 
 def reply_at(data: bytes, at: int = 0) -> Tuple[Tuple[bytes, Any], int]:
-    """The reply that begins there, as its kind and its text or its parts, and where it ends. It is read by its type and length
-    alone, by none of the package's readers. The text of nil is None, and
-    an attribute is passed over. ValueError if no whole reply begins there."""
+    """The reply that begins there, as its kind and its text or its parts, and where it ends. It is read by its type and
+    length alone, by none of the package's readers. The text of nil is None, and an attribute is passed over. ValueError
+    if no whole reply begins there."""
     end = data.index(b"\r\n", at)
     kind, text, at = data[at:at + 1], data[at + 1:end], end + 2
     if kind not in SIMPLE + SIZED:
@@ -392,8 +397,10 @@ class Session:
 
     def run(self, program: str, **more: Any) -> List[str]:
         """Runs it. Returns what goes otherwise in what is sent and said, and in the status."""
-        ran = subprocess.run([program, *words_in(self.words)], input=self.replies(), capture_output=True, timeout=60, **more)
-        return differences(sent=(ran.stdout, self.asked()), status=(ran.returncode, self.status), said=(ran.stderr.decode(), self.said))
+        command = [program, *words_in(self.words)]
+        ran = subprocess.run(command, input=self.replies(), capture_output=True, timeout=60, **more)
+        return differences(sent=(ran.stdout, self.asked()), status=(ran.returncode, self.status),
+                           said=(ran.stderr.decode(), self.said))
 
 
 def weave(asked: Sequence[Any], replies: Sequence[Any]) -> List[Any]:
@@ -435,7 +442,7 @@ def error(text: str, cause: Optional[str] = None, most: int = 120) -> str:
 
 
 def refusals(program: str, places: str, rows: Iterable[Tuple[str, str]]) -> Iterator[Tuple[str, str]]:
-    """Words that are refused, and what is said, as the crate clap tells it; of that USAGE and USED:OPTION are written short."""
+    """Words that are refused, and what is said, as the crate clap tells it, with USAGE and USED:OPTION for short."""
     for words, told in rows:
         told = told.replace("USAGE", f"\n\nUsage: {program} [OPTIONS] {places}")
         before, used, option = told.partition("USED")
@@ -449,11 +456,12 @@ def version(program: str) -> str:
 
 
 def calls_of_system(program: str, words: Sequence[str], coming: bytes) -> List[Tuple[str, str, bool]]:
-    """Runs a program under strace. Returns its calls that write, or have the disk take in what was written: each as its name,
-    its file, and whether it has an XACK in it."""
+    """Runs a program under strace. Returns its calls that write, or have the disk take in what was written: each as its
+    name, its file, and whether it has an XACK in it."""
     with tempfile.TemporaryDirectory() as folder:
-        subprocess.run(["strace", "-f", "-y", "-s", "999", "-e", "trace=write,writev,pwrite64,pwritev,fdatasync,fsync", "-o", "calls",
-                        program, *words], input=coming, capture_output=True, timeout=60, cwd=folder)
+        traced = "trace=write,writev,pwrite64,pwritev,fdatasync,fsync"
+        command = ["strace", "-f", "-y", "-s", "999", "-e", traced, "-o", "calls", program, *words]
+        subprocess.run(command, input=coming, capture_output=True, timeout=60, cwd=folder)
         lines = text_of(f"{folder}/calls").splitlines()
     return [(call, os.path.basename(file), "XACK" in rest)
             for line in lines for call, file, rest in re.findall(r"(\w+)\(\d+<([^>]*)>(.*)", line)]

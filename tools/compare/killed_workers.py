@@ -147,7 +147,8 @@ def of_celery(broker, _):
 
 def of_sidekiq(broker, _):
     """Which jobs are queued, and which are to be tried again or given up."""
-    kept = broker.ask(("LRANGE", "queue:default", "0", "-1"), ("ZRANGE", "retry", "0", "-1"), ("ZRANGE", "dead", "0", "-1"))
+    kept = broker.ask(("LRANGE", "queue:default", "0", "-1"), ("ZRANGE", "retry", "0", "-1"),
+                      ("ZRANGE", "dead", "0", "-1"))
     jobs = [{json.loads(job)["args"][0] for job in each} for each in kept]
     return dict(zip(("queued", "to be tried again", "dead"), jobs))
 

@@ -1,12 +1,12 @@
-# Runs redis' own tests of streams against a server that runs already, each case by itself and over connections of its own.
-# tools/live/peers calls it.
+# Runs redis' own tests of streams against a server that runs already, each case by itself and over connections of its
+# own. tools/live/peers calls it.
 #
 # usage: tclsh peers.tcl SOURCE HOST PORT 'COMMAND ..' FILE..
 #
 # SOURCE is redis' source. A case that sends one of the commands is left out, and so is one that starts a server of its
-# own. If CONFIG is one of them, the size of nodes is not set, and a case is left out only if its size counts: with ~ as it
-# trims, and another size than 100. A line for each case: 'pass', 'fail' or 'left out', its name, and what went wrong or why it is left out, between
-# tabs.
+# own. If CONFIG is one of them, the size of nodes is not set, and a case is left out only if its size counts: with ~ as
+# it trims, and another size than 100. A line for each case: 'pass', 'fail' or 'left out', its name, and what went wrong
+# or why it is left out, between tabs.
 lassign $argv source host port wanting
 set files [lrange $argv 4 end]
 cd $source
@@ -15,7 +15,8 @@ source tests/support/util.tcl
 source tests/support/test.tcl
 
 proc said {outcome name {why ""}} {
-    puts "$outcome\t[string map {\n " " \r " " \t " "} $name]\t[string map {\n " " \r " " \t " "} [string range $why 0 199]]"
+    set spaces [list \n " " \r " " \t " "]
+    puts "$outcome\t[string map $spaces $name]\t[string map $spaces [string range $why 0 199]]"
     flush stdout
 }
 
@@ -32,7 +33,8 @@ proc begin_anew {} {
 set connections {}
 begin_anew
 
-# A client whose replies are read later. A read with BLOCK is given time to begin its wait, before another client goes on.
+# A client whose replies are read later. A read with BLOCK is given time to begin its wait, before another client goes
+# on.
 proc deferred {one args} {
     set blocks [expr {[lsearch -nocase $args block] >= 0}]
     if {$blocks} { set before [s blocked_clients] }
