@@ -1,5 +1,5 @@
 """A second reader of the RESP protocol, and the frame in which readers are compared with the program cases: for
-compare-wire, compare-refs, compare-full and compare-hiredis."""
+compare-wire, compare-refs, compare-full, compare-hiredis and compare-slots."""
 import collections
 import random
 import re
