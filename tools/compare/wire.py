@@ -242,8 +242,7 @@ def answer(data):
     return f"{end} {shown(reply)}"
 
 
-def mutated(chosen, data, marks=b"0123456789-+$*:%~>|#_,(!=\r\n"):
-    """Bytes that are changed at some places; those that are put in are some of these."""
+def mutated(chosen, data):
     data = bytearray(data)
     for _ in range(chosen.choice((1, 1, 1, 2, 3))):
         at = chosen.randrange(len(data) + 1)
@@ -251,11 +250,11 @@ def mutated(chosen, data, marks=b"0123456789-+$*:%~>|#_,(!=\r\n"):
         if what == 0 and at < len(data):
             data[at] = chosen.randrange(256)
         elif what == 1 and at < len(data):
-            data[at] = chosen.choice(marks + b"?")
+            data[at] = chosen.choice(b"0123456789-+$*:%~>|#_,(!=\r\n?")
         elif what == 2 and at < len(data):
             del data[at : at + chosen.randrange(1, 4)]
         elif what == 3:
-            data[at:at] = bytes([chosen.choice(marks)])
+            data[at:at] = bytes([chosen.choice(b"0123456789-+$*:%~>|#_,(!=\r\n")])
         elif what == 4:
             del data[at:]
         else:
