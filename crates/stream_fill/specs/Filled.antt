@@ -1,7 +1,7 @@
 -- The end of a session that did not add all records.
-use Rattle.std.specs.Prelude.{ℕ, ◌-◌, ◌^◌, List, Option}
+use Rattle.std.specs.Prelude.{ℕ, ◌-◌, ◌^◌, ◌⊎◌, List, Option}
 use Rattle.redis_connection.specs.Link.{Link}
-use Rattle.worker_producer.specs.Confirmed.{BrokeConfirmed, ConfirmedRounds}
+use Rattle.worker_producer.specs.Confirmed.{BrokeConfirmed, ConfirmedRounds, FinishedConfirmed}
 use Rattle.worker_producer.specs.Machine.{Standing, idle}
 use Rattle.worker_producer.specs.Records.{Fields}
 use Rattle.worker_producer.specs.declared.settings.Settings.{Settings}
@@ -14,3 +14,8 @@ abbrev pub Fails : Option Wait → Settings → Option (List Fields) → ℕ →
 Fails wait s known count old new (causes.Round e) = BrokeConfirmed wait s known count old new e
 Fails wait s known count old new causes.NoTurnLeft =
     (x : Standing) × ConfirmedRounds wait s known count (2 ^ 64 - 1) old new idle x
+
+-- or the session ended, with all records or with an error: then the counts could not be shown, or a last line has no end
+abbrev pub FillsNot : Option Wait → Settings → Option (List Fields) → ℕ → Link → Link → Type 0
+FillsNot wait s known count old new =
+    FinishedConfirmed wait s known count old new ⊎ ((e : FillError) × Fails wait s known count old new e)

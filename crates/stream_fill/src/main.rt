@@ -16,8 +16,10 @@
 //! prints its arguments.
 #![tactic(auto)]
 
-ghost use Rattle.std.specs.Prelude.{◌≡◌, IfOk, IfSome, IsErr, IsOk, OnErr, OnOk};
+ghost use Rattle.std.specs.Prelude.{◌≡◌, IfOk, IfSome, IsErr, IsOk, OnErr, OnOk, false};
 ghost use Rattle.std.specs.Process.{exit_status};
+ghost use Rattle.stream_fill.specs.Filled.{FillsNot};
+ghost use Rattle.worker_producer.specs.Confirmed.{FinishedConfirmed};
 
 mod byte_file;
 mod counts;
@@ -29,6 +31,7 @@ mod lines;
 mod options;
 mod split;
 
+use crate::byte_file::ByteFile;
 use crate::counts::Counts;
 use crate::fill::{FillError, fill};
 use crate::kept_base::{BaseError, find_base};
@@ -36,14 +39,14 @@ use crate::lines::Lines;
 use crate::options::{Options, options_of};
 use anyhow::{Error, Result, anyhow, bail};
 use command_lines::tell;
-use redis_connection::Connection;
+use redis_connection::{Connection, Wait};
 use redis_wire::Limits;
 use std::alloc::{AllocError, Global};
 use std::io::{ErrorKind, Read, Write};
 use std::process::ExitCode;
 use std::{env, io};
 use worker_journal::{LogError, SystemFile};
-use worker_producer::{ConfirmedError, FeedError, RequestError, RunError, Settings};
+use worker_producer::{ConfirmedError, FeedError, RequestError, RunError, Settings, Source};
 
 fn main(rt: HostRuntime) -> Result<ExitCode> {
     let words = read_arguments(&rt)?;
@@ -114,24 +117,43 @@ fn fill_by(rt: &HostRuntime, options: Options) -> Result<()> {
         settings = use_kept_base(alloc, settings, &mut file, &mut connection, path.as_str())?;
         kept = Some(file);
     }
+    let ended = fill_with(rt, &mut connection, settings, &mut lines, wait, is_onto);
+    // Until here no other run has the file of the base open.
+    drop(kept);
+    ended
+}
+
+/// Adds these lines over this connection, and shows the counts. A last line without a line end is an error.
+fn fill_with<R: Read + Drop, W: Write + Drop, F: ByteFile + Drop, T: Eprint + AllocGlobal>(
+    rt: &T,
+    connection: &mut Connection<R, W>,
+    settings: Settings,
+    lines: &mut Lines<F>,
+    wait: Option<Wait>,
+    is_onto: bool,
+) -> Result<()>
+    ensures all { OnOk result (FinishedConfirmed wait settings (⟦<Lines<F> as Source>⟧.records lines.old)
+        lines.old.count connection.old connection.new) }
+    ensures whole { OnOk result (lines.old.is_torn ≡ false) }
+    ensures failed { OnErr result (FillsNot wait settings (⟦<Lines<F> as Source>⟧.records lines.old)
+        lines.old.count connection.old connection.new) }
+{
     let mut counts = Counts::new();
-    let count = lines.count;
+    let (count, is_torn) = (lines.count, lines.is_torn);
     let ended = fill(
-        alloc,
-        &mut connection,
+        rt.alloc(),
+        connection,
         settings,
-        &mut lines,
+        lines,
         count,
         wait,
         &mut counts,
     );
-    // Until here no other run has the file of the base open.
-    drop(kept);
     eprintln!(rt; "{counts}")?;
     if let Err(error) = ended {
-        return Err(explain_error(error, lines.fault, is_onto));
+        return Err(explain_error(error, lines.fault.take(), is_onto));
     }
-    if lines.is_torn {
+    if is_torn {
         bail!("the last line has no end, and is not added");
     }
     Ok(())
