@@ -1,3 +1,4 @@
 -- Lemmas.
 mod RoundsLemmas
 mod GivenUpLemmas
+mod ProgramLemmas

@@ -4,3 +4,4 @@ pub mod Options
 pub mod Failures
 pub mod Rounds
 pub mod GivenUp
+pub mod Program

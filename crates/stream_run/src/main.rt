@@ -18,9 +18,11 @@
 //! arguments.
 #![tactic(auto)]
 
-ghost use Rattle.std.specs.Prelude.{◌≡◌, IfErr, IfOk, OnOk};
+ghost use Rattle.std.specs.Prelude.{◌≡◌, ◌⊎◌, IfErr, IfOk, OnErr, OnOk, is_some};
 ghost use Rattle.std.specs.Process.{exit_status};
+ghost use Rattle.worker.specs.Session.{standing_of};
 ghost use Rattle.stream_run.specs.Failures.{IsOfChild};
+ghost use Rattle.stream_run.specs.Program.{EndsSo, IsNew, StopsSo, first_talk, newborn, settings_with};
 
 mod drain;
 mod failure;
@@ -39,11 +41,11 @@ use redis_wire::Limits;
 use std::alloc::{AllocError, Global};
 use std::env;
 use std::fs::{File, OpenOptions};
-use std::io::{self, BufReader};
+use std::io::{self, BufReader, Read, Write};
 use std::process::ExitCode;
 use worker::dead_letters::{DeadLetterSearch, GiveUp};
-use worker::{Settings, Worker};
-use worker_jobs::Jobs;
+use worker::{Handler, Settings, Worker};
+use worker_jobs::{Jobs, SteadyRead, SteadyWrite};
 
 /// The exit status if the child sends no valid reply.
 const CHILD_FAILED: u8 = 4;
@@ -103,42 +105,125 @@ fn read_arguments(rt: &HostRuntime) -> Result<Vec<String>> {
 
 /// Drains by these options, over standard input and output.
 fn drain_by(rt: &HostRuntime, options: Options) -> Result<(), Failure> {
-    let Options {
-        mut settings,
-        until_empty,
-        dead,
-        lines,
-        replies,
-    } = options;
-    let alloc = rt.alloc();
+    let replies = open_replies(rt, &options.replies)?;
+    let lines = open_lines(rt, &options.lines)?;
+    let mut connection = Connection::new(
+        rt.alloc(),
+        rt.reader(),
+        io::writer(rt),
+        Limits::default(),
+    )?;
+    drain_with(rt, &mut connection, replies, lines, options)
+}
+
+/// Drains by these options, over this connection, with the child that writes these replies and reads these lines.
+fn drain_with<
+    R: Read + Drop,
+    W: Write + Drop,
+    C: SteadyRead + Drop,
+    D: SteadyWrite + Drop,
+    T: Eprint + AllocGlobal,
+>(
+    rt: &T,
+    connection: &mut Connection<R, W>,
+    replies: C,
+    lines: D,
+    options: Options,
+) -> Result<(), Failure>
+    ensures ok { OnOk result (EndsSo (settings_with options.dead options.settings) options.until_empty
+        connection.old connection.new (newborn (settings_with options.dead options.settings)
+        (first_talk options.settings (D.contents lines) (C.remaining replies)))) }
+    ensures err { OnErr result ((connection.new ≡ connection.old)
+        ⊎ StopsSo (settings_with options.dead options.settings)
+        connection.old connection.new (newborn (settings_with options.dead options.settings)
+        (first_talk options.settings (D.contents lines) (C.remaining replies)))) }
+{
+    let mut jobs = begin_jobs(rt.alloc(), &options.settings, replies, lines)?;
+    let mut run = begin_run(rt.alloc(), options)?;
+    make_run(rt, connection, &mut jobs, &mut run)
+}
+
+/// The handler of the entries, before the first one.
+fn begin_jobs<C: SteadyRead + Drop, D: SteadyWrite + Drop>(
+    alloc: Global,
+    settings: &Settings,
+    replies: C,
+    lines: D,
+) -> Result<Jobs<C, D>>
+    ensures begins { IfOk result (λ jobs. ⟦<Jobs<C, D> as Handler>⟧.history jobs
+        ≡ first_talk settings.now (D.contents lines) (C.remaining replies)) }
+{
     let stream = String::from_str(alloc, settings.key())?;
-    let mut jobs = Jobs::new(
-        alloc,
-        stream,
-        open_replies(rt, &replies)?,
-        open_lines(rt, &lines)?,
-    );
-    let mut connection = Connection::new(alloc, rt.reader(), io::writer(rt), Limits::default())?;
-    let mut dead = make_search(alloc, &mut settings, dead)?;
-    let mut worker = Worker::new(alloc, settings);
+    Ok(Jobs::new(alloc, stream, replies, lines))
+}
+
+/// A run of the program before its first command.
+#[derive(Drop)]
+struct Run {
+    worker: Worker,
+    dead: Option<DeadLetterSearch>,
+    until_empty: bool,
+}
+
+/// A run by these options.
+fn begin_run(alloc: Global, options: Options) -> Result<Run>
+    ensures worker { IfOk result (λ run. IsNew (settings_with options.dead options.settings) run.worker) }
+    ensures dead { IfOk result (λ run. is_some run.dead ≡ is_some options.dead) }
+    ensures until_empty { IfOk result (λ run. run.until_empty ≡ options.until_empty) }
+{
+    let mut settings = options.settings;
+    let dead = make_search(alloc, &mut settings, options.dead)?;
+    Ok(Run {
+        worker: Worker::new(alloc, settings),
+        dead,
+        until_empty: options.until_empty,
+    })
+}
+
+/// Drains, and shows the counts at the end.
+fn make_run<
+    R: Read + Drop,
+    W: Write + Drop,
+    C: SteadyRead + Drop,
+    D: SteadyWrite + Drop,
+    T: Eprint + AllocGlobal,
+>(
+    rt: &T,
+    connection: &mut Connection<R, W>,
+    jobs: &mut Jobs<C, D>,
+    run: &mut Run,
+) -> Result<(), Failure>
+    ensures ok { OnOk result (EndsSo run.old.worker.settings run.old.until_empty connection.old connection.new
+        (standing_of run.old.worker (⟦<Jobs<C, D> as Handler>⟧.history jobs.old))) }
+    ensures err { OnErr result (StopsSo run.old.worker.settings connection.old connection.new
+        (standing_of run.old.worker (⟦<Jobs<C, D> as Handler>⟧.history jobs.old))) }
+{
     let mut report = Report::new();
     let ended = drain(
         rt,
-        &mut connection,
-        &mut worker,
-        &mut jobs,
+        connection,
+        &mut run.worker,
+        jobs,
         &mut report,
-        &mut dead,
-        until_empty,
+        &mut run.dead,
+        run.until_empty,
     );
     report.left = jobs.left;
-    report.letters = dead.map(|dead| dead.letters());
+    report.letters = count_letters(&run.dead);
     show_report(rt, &report)?;
     ended
 }
 
+/// How many entries were given up, if any may be.
+fn count_letters(dead: &Option<DeadLetterSearch>) -> Option<u64> {
+    match dead {
+        Some(dead) => Some(dead.letters()),
+        None => None,
+    }
+}
+
 /// Shows the counts at the end.
-fn show_report(rt: &HostRuntime, report: &Report) -> Result<()> {
+fn show_report<T: Eprint>(rt: &T, report: &Report) -> Result<()> {
     eprintln!(rt; "{report}")?;
     Ok(())
 }
@@ -170,7 +255,10 @@ fn make_search(
     alloc: Global,
     settings: &mut Settings,
     to: Option<GiveUp>,
-) -> Result<Option<DeadLetterSearch>> {
+) -> Result<Option<DeadLetterSearch>>
+    ensures settings { OnOk result (settings.new ≡ settings_with to settings.old) }
+    ensures search { IfOk result (λ search. is_some search ≡ is_some to) }
+{
     match to {
         Some(to) => Ok(Some(DeadLetterSearch::new(alloc, settings, to)?)),
         None => Ok(None),

@@ -1,0 +1,44 @@
+-- A run of the program, by its options.
+use Rattle.std.specs.Prelude.{◌≡◌, ◌⊎◌, ℕ, List, Bool, true, false, Option, None, Some, IsTrue, string_bytes}
+use Rattle.redis_connection.specs.Link.{Link}
+use Rattle.model_server.specs.Group.Worker.{start}
+use Rattle.worker.specs.Machine.{machine_of}
+use Rattle.worker.specs.Session.{Standing}
+use Rattle.worker.specs.declared.dead_letters.search.GiveUp.{GiveUp}
+use Rattle.worker.specs.declared.state.Asked.TheVariants.{Nothing}
+use Rattle.worker.specs.declared.state.GroupState.TheVariants.{Unknown}
+use Rattle.worker.specs.declared.state.Settings.{Settings}
+use Rattle.worker.specs.declared.worker.Worker.{Worker}
+use Rattle.worker_jobs.specs.Talk.{Talk, over, talk_of}
+use Rattle.stream_run.specs.Rounds.{Rounds, Stops}
+
+-- the settings of the worker: with `--dead` it requests entries that were delivered before one at a time
+abbrev pub settings_with : Option GiveUp → Settings → Settings
+settings_with None settings = settings
+settings_with (Some to) settings = record settings { one_at_a_time = true }
+
+-- the talk before the first entry: the lines are of the stream that the settings name, and this was sent and is coming
+abbrev pub first_talk : Settings → Option (List ℕ) → Option (List ℕ) → Talk
+first_talk settings sent coming = talk_of false (string_bytes settings.key) sent coming
+
+-- a new worker with these settings, whose handler begins with this talk
+abbrev pub newborn : Settings → Talk → Standing Talk
+newborn settings talk =
+    record { machine = start settings.every; group = Unknown; asked = Nothing; history = talk }
+
+-- the worker is new, and has these settings
+pub record IsNew (settings : Settings) (worker : Worker) : Type 0 where
+  pub has : worker.settings ≡ settings
+  pub machine : machine_of worker ≡ start settings.every
+  pub group : worker.group ≡ Unknown
+  pub asked : worker.asked ≡ Nothing
+
+-- a worker with these settings made rounds from here on and no more; it was asked to end, or the talk is over
+pub record EndsSo (settings : Settings) (until_empty : Bool) (old new : Link) (first : Standing Talk) : Type 0 where
+  pub last : Standing Talk
+  pub rounds : Rounds settings old first new last
+  pub why : IsTrue until_empty ⊎ (last.history ≡ over)
+
+-- it made rounds from here on, and stopped
+abbrev pub StopsSo : Settings → Link → Link → Standing Talk → Type 0
+StopsSo settings old new first = (last : Standing Talk) × Stops settings old new first last
