@@ -101,7 +101,7 @@ impl<F: ByteFile + Drop> Lines<F> {
         })
     }
 
-    /// The records after the first `behind` ones, at most `most` of them.
+    /// At most `most` records, from the one of this number on, counted from 0.
     fn read_from(&mut self, alloc: Global, behind: u64, most: usize) -> Result<Vec<Record>>
         ensures file { F.bytes self.new.reader.file ≡ F.bytes self.old.reader.file }
         ensures form { self.new.form ≡ self.old.form }
@@ -187,26 +187,26 @@ fn store_place(places: &mut Vec<Place>, place: Place) -> Result<(), AllocError>
     Ok(())
 }
 
-/// Goes to the line after the first `behind` ones.
+/// Seeks to the line of this number, counted from 0.
 fn seek_line<F: ByteFile + Drop>(
     reader: &mut LineReader<F>,
     places: &[Place],
-    behind: u64,
+    number: u64,
 ) -> Result<()>
     requires { ForSome (F.bytes reader.old.file) (λ all. All (IsPlace all) places.now) }
     ensures file { F.bytes reader.new.file ≡ F.bytes reader.old.file }
-    ensures place { OnOk result (reader.new.place.number ≡ behind) }
+    ensures place { OnOk result (reader.new.place.number ≡ number) }
 {
-    if reader.place().number == behind {
+    if reader.place().number == number {
         return Ok(());
     }
-    let place = match places.get((behind / STEP) as usize) {
-        Some(place) if place.number <= behind => *place,
+    let place = match places.get((number / STEP) as usize) {
+        Some(place) if place.number <= number => *place,
         _ => bail!("the file is too short"),
     };
     reader.seek(place);
     for _ in 0..u64::MAX {
-        let left = behind - reader.place().number;
+        let left = number - reader.place().number;
         if left == 0 {
             return Ok(());
         }

@@ -58,7 +58,7 @@ stands machine group asked talk = record { machine = machine; group = group; ask
 
 module _ {A E : Type 0} (r : Result A E) (settings : Settings) (worker : Worker) (t u : Talk) (old new : Link)
     (is : IsNew settings worker) (same : t ≡ u) where
-  -- it stands as a new worker
+  -- its state is that of a new worker
   as_new : standing_of worker t ≡ newborn settings u
   as_new = subst (λ (m : Machine). stands m worker.group worker.asked t ≡ newborn settings u) (sym is.machine)
       (subst (λ (g : GroupState). stands (start settings.every) g worker.asked t ≡ newborn settings u) (sym is.group)

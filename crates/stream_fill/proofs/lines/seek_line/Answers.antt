@@ -6,4 +6,4 @@ use Rattle.stream_fill.proofs.lines.seek_line.Goals as goal
 pub seek-requires : goal.seek-requires
 seek-requires g c all is =
     let at = c.in-Some.ensures.lookup in
-    subst (λ (p : Place). IsPlace all p) (sym at.1) (c.requires all is (c.args.behind / 65536) c.in-Some.place.now at.3.0)
+    subst (λ (p : Place). IsPlace all p) (sym at.1) (c.requires all is (c.args.number / 65536) c.in-Some.place.now at.3.0)
