@@ -1,5 +1,5 @@
 //! Writers, which receive arguments.
-ghost use Rattle.std.specs.Prelude.{◌≡◌, ◌↔◌, ℕ, List, [], ◌∷◌, map, OnErr};
+ghost use Rattle.std.specs.Prelude.{◌≡◌, ◌↔◌, ◌≤◌, ◌+◌, ℕ, List, [], ◌∷◌, map, max, OnErr, vec_capacity, vec_len};
 ghost use Rattle.redis_args.specs.Writer.{Wrote};
 ghost use Rattle.redis_args.specs.declared.writer.WriteError.{WriteError};
 ghost use Rattle.redis_args.specs.declared.writer.WriteError.TheVariants.{Memory};
@@ -71,11 +71,13 @@ impl RedisWrite for Vec<Vec<u8>> {
 // The capacity reserved by a list that has none: the usual number of arguments of a command.
 const USUAL_COUNT: usize = 16;
 
+/// Reserves a capacity of 16 for a list that has none.
 fn make_room(list: &mut Vec<Vec<u8>>) -> Result<(), AllocError>
-    ensures { list.new.items ≡ list.old.items }
+    ensures items { list.new.items ≡ list.old.items }
+    ensures bound { vec_capacity list.new ≤ max (vec_capacity list.old) (vec_len list.old + 16) }
 {
     if list.capacity() == 0 {
-        list.reserve(USUAL_COUNT)
+        list.reserve_exact(USUAL_COUNT)
     } else {
         Ok(())
     }

@@ -1,6 +1,6 @@
 //! Entries that have both forms of a read reply.
 ghost use Rattle.std.specs.Prelude.{◌≡◌, ◌≢◌, ◌++◌, ◌∷◌, [], Some, None, IfOk, IfErr, OnOk};
-ghost use Rattle.std.specs.Prelude.{string_bytes};
+ghost use Rattle.std.specs.Prelude.{string_bytes, vec_capacity};
 ghost use Rattle.redis_resp.specs.FieldsMeaning.{fields_of};
 ghost use Rattle.stream_entries.specs.Entry.{entry_of};
 ghost use Rattle.redis_resp.specs.Reading.{option_reading};
@@ -94,11 +94,19 @@ pub(crate) fn settle(
 ) -> Result<Vec<StreamId>, AllocError>
     ensures { IfOk result (λ ids. entries_of ids ≡ settled_in form overlaps) }
 {
-    let mut ids = Vec::with_capacity(alloc, room)?;
+    let mut ids = make_list(alloc, room)?;
     for overlap in overlaps {
         push_overlap(overlap, form, &mut ids)?;
     }
     Ok(ids)
+}
+
+/// Returns an empty list with exactly this capacity.
+fn make_list(alloc: Global, room: usize) -> Result<Vec<StreamId>, AllocError>
+    ensures entries { IfOk result (λ ids. ids.items ≡ []) }
+    ensures room { IfOk result (λ ids. vec_capacity ids ≡ room) }
+{
+    Vec::with_capacity(alloc, room)
 }
 
 /// Appends the entries of an overlap in a form.

@@ -1,5 +1,5 @@
 //! The reply of XINFO CONSUMERS.
-ghost use Rattle.std.specs.Prelude.{◌≡◌, [], List, Some, IsOk, IfOk, IfErr, codes, map, option_map};
+ghost use Rattle.std.specs.Prelude.{◌≡◌, [], List, Some, IsOk, IfOk, IfErr, codes, length, map, option_map, vec_capacity};
 ghost use Rattle.redis_resp.specs.Refusal.{Refuses};
 ghost use Rattle.redis_streams.specs.Info.{Consumer, consumer_of_fields, consumer_reading, consumers_reading};
 ghost use Rattle.redis_streams.specs.InfoMeaning.{consumer_meaning, consumers_meaning, fields_by_name};
@@ -116,12 +116,13 @@ impl FromRedisValue for Row {
 
 /// Returns the reply of these rows. It fails only if it runs out of memory.
 fn reply_of(alloc: Global, rows: Vec<Row>) -> Result<StreamInfoConsumersReply, AllocError>
-    ensures { IfOk result (λ r. consumers_meaning r
+    ensures rows { IfOk result (λ r. consumers_meaning r
         ≡ map (λ row. consumer_meaning row.0) rows.items) }
+    ensures room { IfOk result (λ r. vec_capacity r.consumers ≡ length rows.items) }
 {
     let mut consumers = Vec::with_capacity(alloc, rows.len())?;
     for row in rows {
-        consumers.push(row.0)?;
+        consumers.push_reserved(row.0);
     }
     Ok(StreamInfoConsumersReply { consumers })
 }
