@@ -1,3 +1,4 @@
 -- The definitions for the contracts of this crate.
 pub mod Numbers
 pub mod WorkerSettings
+pub mod Counts

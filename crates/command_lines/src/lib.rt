@@ -14,11 +14,13 @@ ghost use Rattle.clap.specs.declared.builder.ArgAction.TheVariants.{Set, SetTrue
 ghost use Rattle.clap.specs.declared.builder.value_parser.ValueParser.TheVariants as vp;
 ghost use Rattle.command_lines.specs.Numbers.{IsNumberIn, number_of};
 
+mod counts;
 mod worker_settings;
 
 use clap::builder::ValueParser;
 use clap::error::ErrorKind;
 use clap::{Arg, ArgAction, ArgMatches, Command, Error};
+pub use counts::Counts;
 use std::alloc::{AllocError, Global};
 use std::fmt::Display;
 use std::io;

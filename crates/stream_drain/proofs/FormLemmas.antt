@@ -11,7 +11,8 @@ use Rattle.worker_journal.proofs.EntryLineLemmas.{line_tells, line_whole}
 use Rattle.model_workers.specs.Files.Files.{Form}
 use Rattle.model_workers.proofs.FilesLemmas.Whole.{text}
 use Rattle.stream_drain.specs.Line.{line_in}
-use Rattle.stream_drain.specs.Tell.{AreBytes, LinesAreAForm}
+use Rattle.worker.specs.EntryJson.{AreBytes}
+use Rattle.stream_drain.specs.Tell.{LinesAreAForm}
 use Rattle.stream_drain.proofs.LinesLemmas.{one_line}
 use Rattle.stream_drain.proofs.SameLineLemmas.{tell}
 use Rattle.stream_drain.proofs.TellLemmas.{begins_with_id}

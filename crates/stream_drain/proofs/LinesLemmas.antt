@@ -17,7 +17,8 @@ use Rattle.stream_drain.specs.Line.{entry_tokens, line_in}
 use Rattle.stream_drain.specs.Resumed.{KnowsItsFile}
 use Rattle.stream_drain.specs.There.{KnowsPlaces}
 use Rattle.stream_drain.specs.Written.{Written, line_too, lines_in, written_by, written_too}
-use Rattle.stream_drain.proofs.JsonLemmas.{entry_texts, no_end}
+use Rattle.stream_drain.proofs.JsonLemmas.{entry_texts}
+use Rattle.worker.proofs.EntryJsonLemmas.TokensLemmas.{no_end}
 use Rattle.stream_drain.proofs.KnownLemmas.{numbers_more, told_known}
 
 -- the line of an entry has no end in it

@@ -1,114 +1,23 @@
 -- A line tells its entry, in JSON too.
-use Rattle.std.proofs.Common.{◌≡◌, ◌<◌, ℕ, zero, suc, Bool, true, false, List, [], ◌∷◌, ◌++◌, flat_map, slice_index, refl, sym}
-use Rattle.std.proofs.Common.{◌∙◌, ap, ap₂, arith, append_assoc, if◌then◌else◌}
-use Rattle.std.specs.List.{AllByRecursion}
-use Rattle.std.specs.Str.{is_utf8}
-use Rattle.std.proofs.lemmas.Bool.{true≢false}
-use Rattle.base64.proofs.RoundTrip.{decode-encode}
-use Rattle.base64.specs.Decode.{decoded_bytes}
-use Rattle.base64.specs.Engines as named
-use Rattle.base64.specs.GeneralPurpose.{encode_of}
-use Rattle.base64.specs.declared.engine.DecodePaddingMode.TheVariants.{RequireCanonical}
-use Rattle.json.specs.Token.{Token, begin_object, end_object, begin_array, end_array}
-use Rattle.json.specs.Token.{key, string, number, boolean, null, bad}
-use Rattle.json.specs.Lex.{tokens}
-use Rattle.json.specs.Print.{print, ArePrintable}
-use Rattle.json.proofs.Printed.Tokens.{tokens-print}
+use Rattle.std.proofs.Common.{◌≡◌, ap₂, true, false, [], ◌∷◌, ◌++◌}
+use Rattle.json.specs.Token.{end_object}
+use Rattle.json.specs.Print.{print}
 use Rattle.worker_journal.specs.EntryLine.{Entry}
 use Rattle.worker_journal.specs.EntryLine as tabs
-use Rattle.stream_drain.specs.Json.{are_texts}
-use Rattle.stream_drain.specs.Line.{base64_tokens, bytes_tokens, end_tokens, entry_tokens, field_tokens}
-use Rattle.stream_drain.specs.Tell.{AreBytes, IsOfBytes, LinesTellEntries}
+use Rattle.worker.specs.EntryJson.{fields_tokens}
+use Rattle.worker.proofs.EntryJsonLemmas.SameLemmas as fields
+use Rattle.stream_drain.specs.Line.{entry_tokens}
+use Rattle.stream_drain.specs.Tell.{IsOfBytes, LinesTellEntries}
 use Rattle.stream_drain.proofs.JsonLemmas.{entry_texts}
 
--- ---- the tokens of a line
-
-printable : (ts : List Token) → are_texts ts ≡ true → ArePrintable ts
-unfolding ArePrintable
-printable [] are = tt
-printable (begin_object ∷ ts) are = (tt, printable ts are)
-printable (end_object ∷ ts) are = (tt, printable ts are)
-printable (begin_array ∷ ts) are = (tt, printable ts are)
-printable (end_array ∷ ts) are = (tt, printable ts are)
-printable (key s ∷ ts) are = (tt, printable ts are)
-printable (string s ∷ ts) are = (tt, printable ts are)
-printable (number s ∷ ts) are = absurd (true≢false (sym are))
-printable (boolean b ∷ ts) are = absurd (true≢false (sym are))
-printable (null ∷ ts) are = absurd (true≢false (sym are))
-printable (bad ∷ ts) are = absurd (true≢false (sym are))
-
 same_tokens : (a b : Entry) → print (entry_tokens a) ≡ print (entry_tokens b) → entry_tokens a ≡ entry_tokens b
-same_tokens a b same =
-    sym (tokens-print (entry_tokens a) (printable (entry_tokens a) (entry_texts a)))
-    ∙ (ap tokens same ∙ tokens-print (entry_tokens b) (printable (entry_tokens b) (entry_texts b)))
-
--- ---- Base64
-
-each_byte : (m : List ℕ) → AreBytes m → (i : ℕ) → slice_index m i < 256
-each_byte [] are i = omega arith
-each_byte (x ∷ xs) are zero = are.0
-each_byte (x ∷ xs) are (suc i) = each_byte xs are.1 i
-
-decoded : (m : List ℕ) → AreBytes m → decoded_bytes named.standard.decode_table 61 (encode_of named.standard m) ≡ m
-decoded m are =
-    (decode-encode named.standard.encode_table named.standard.decode_table m 61 false RequireCanonical true refl (each_byte m are) refl).1
-
-same_bytes : (a b : List ℕ) → AreBytes a → AreBytes b → encode_of named.standard a ≡ encode_of named.standard b → a ≡ b
-same_bytes a b are-a are-b same =
-    sym (decoded a are-a) ∙ (ap (decoded_bytes named.standard.decode_table 61) same ∙ decoded b are-b)
-
--- ---- a text, and what comes after it
-
-record Same {A : Type 0} (xs ys : List ℕ) (us vs : List A) : Type 0 where
-  front : xs ≡ ys
-  after : us ≡ vs
-
-text_once : (a b : List ℕ) (us vs : List Token) → AreBytes a → AreBytes b
-    → bytes_tokens a ++ us ≡ bytes_tokens b ++ vs → Same a b us vs
-text_once a b us vs are-a are-b same = by (is_utf8 a) (is_utf8 b) same
-  where
-    by : (p q : Bool)
-        → (if p then string a ∷ [] else base64_tokens a) ++ us ≡ (if q then string b ∷ [] else base64_tokens b) ++ vs
-        → Same a b us vs
-    by true true e = record { front = cc e; after = cc e }
-    by true false e = absurd (cc e)
-    by false true e = absurd (cc e)
-    by false false e = record { front = same_bytes a b are-a are-b (cc e); after = cc e }
-
--- ---- the fields
-
-joined : (p : List ℕ × List ℕ) (us : List Token)
-    → field_tokens p ++ us ≡ begin_array ∷ (bytes_tokens p.0 ++ (bytes_tokens p.1 ++ end_array ∷ us))
-joined p us = ap (λ ts. begin_array ∷ ts)
-    (append_assoc (bytes_tokens p.0) (bytes_tokens p.1 ++ end_array ∷ []) us
-    ∙ ap (λ ts. bytes_tokens p.0 ++ ts) (append_assoc (bytes_tokens p.1) (end_array ∷ []) us))
-
-field_once : (p q : List ℕ × List ℕ) (us vs : List Token) → (AreBytes p.0 × AreBytes p.1) → (AreBytes q.0 × AreBytes q.1)
-    → field_tokens p ++ us ≡ field_tokens q ++ vs → (p ≡ q) × (us ≡ vs)
-field_once p q us vs are-p are-q same =
-    let e : bytes_tokens p.0 ++ (bytes_tokens p.1 ++ end_array ∷ us) ≡ bytes_tokens q.0 ++ (bytes_tokens q.1 ++ end_array ∷ vs) =
-    cc (sym (joined p us) ∙ (same ∙ joined q vs)) in
-    let name = text_once p.0 q.0 (bytes_tokens p.1 ++ end_array ∷ us) (bytes_tokens q.1 ++ end_array ∷ vs) are-p.0 are-q.0 e in
-    let value = text_once p.1 q.1 (end_array ∷ us) (end_array ∷ vs) are-p.1 are-q.1 name.after in
-    (ap₂ (λ x y. (x, y)) name.front value.front, cc value.after)
-
-fields_once : (ps qs : List (List ℕ × List ℕ)) → AllByRecursion (λ p. AreBytes p.0 × AreBytes p.1) ps
-    → AllByRecursion (λ p. AreBytes p.0 × AreBytes p.1) qs
-    → flat_map field_tokens ps ++ end_tokens ≡ flat_map field_tokens qs ++ end_tokens → ps ≡ qs
-fields_once [] [] are-p are-q same = refl
-fields_once [] (q ∷ qs) are-p are-q same = absurd (cc same)
-fields_once (p ∷ ps) [] are-p are-q same = absurd (cc same)
-fields_once (p ∷ ps) (q ∷ qs) are-p are-q same =
-    let e = sym (append_assoc (field_tokens p) (flat_map field_tokens ps) end_tokens)
-    ∙ (same ∙ append_assoc (field_tokens q) (flat_map field_tokens qs) end_tokens) in
-    let one = field_once p q (flat_map field_tokens ps ++ end_tokens) (flat_map field_tokens qs ++ end_tokens) are-p.0 are-q.0 e in
-    ap₂ (λ x xs. x ∷ xs) one.0 (fields_once ps qs are-p.1 are-q.1 one.1)
+same_tokens a b same = fields.same_tokens (entry_tokens a) (entry_tokens b) (entry_texts a) (entry_texts b) same
 
 entry_once : (a b : Entry) → IsOfBytes a → IsOfBytes b → entry_tokens a ≡ entry_tokens b → a ≡ b
 entry_once a b are-a are-b same =
     let id : a.0 ≡ b.0 = cc same in
-    let rest : flat_map field_tokens a.1 ++ end_tokens ≡ flat_map field_tokens b.1 ++ end_tokens = cc same in
-    ap₂ (λ x y. (x, y)) id (fields_once a.1 b.1 are-a are-b rest)
+    let rest : fields_tokens a.1 ++ end_object ∷ [] ≡ fields_tokens b.1 ++ end_object ∷ [] = cc same in
+    ap₂ (λ x y. (x, y)) id (fields.fields_once a.1 b.1 (end_object ∷ []) (end_object ∷ []) are-a are-b rest).0
 
 -- the ids alone
 pub same_id : (a b : Entry) → print (entry_tokens a) ≡ print (entry_tokens b) → a.0 ≡ b.0

@@ -6,12 +6,13 @@ use Rattle.std.specs.Char.{digit_char}
 use Rattle.std.specs.List.{list_all}
 use Rattle.std.proofs.lemmas.Bool.{and_parts, true≢false}
 use Rattle.std.proofs.lemmas.List.{take-append-drop}
-use Rattle.json.specs.Token.{begin_array, key}
+use Rattle.json.specs.Token.{end_object, key}
 use Rattle.json.specs.Print.{escape, escape_byte, escape_letter, print_from}
 use Rattle.worker_journal.specs.EntryLine.{Entry, IsEntryIn}
 use Rattle.worker_journal.proofs.EntryLineLemmas.{line_tells}
 use Rattle.model_server.specs.Group.Worker.{Id}
-use Rattle.stream_drain.specs.Line.{end_tokens, field_tokens, line_in}
+use Rattle.worker.specs.EntryJson.{fields_tokens}
+use Rattle.stream_drain.specs.Line.{line_in}
 use Rattle.stream_drain.specs.Resumed.{TellEach, Tells, is_of_id}
 
 -- one line more
@@ -84,7 +85,7 @@ same_text (b ∷ bs) (x ∷ xs) rest more same all = elim (stands_so b) [
 
 -- what stands behind the id in the line of an entry
 abbrev behind_id : Entry → List ℕ
-behind_id e = print_from true (key (codes "fields") ∷ begin_array ∷ (flat_map field_tokens e.1 ++ end_tokens))
+behind_id e = print_from true (key (codes "fields") ∷ (fields_tokens e.1 ++ end_object ∷ []))
 
 pub begins_with_id : (e : Entry) → line_in true e ≡ codes "{\"id\":\"" ++ ((escape e.0 ++ 34 ∷ []) ++ behind_id e)
 unfolding print_from escape_byte

@@ -3,9 +3,7 @@ pub mod Options
 pub mod Counts
 pub mod Turn
 pub mod Program
-pub mod Json
 pub mod Line
-pub mod Report
 pub mod Backlog
 pub mod Known
 pub mod There

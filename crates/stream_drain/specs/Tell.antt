@@ -1,17 +1,13 @@
 -- A line determines its entry.
-use Rattle.std.specs.Prelude.{◌≡◌, ◌<◌, ℕ, List, Bool}
-use Rattle.std.specs.List.{AllByRecursion}
+use Rattle.std.specs.Prelude.{◌≡◌, Bool}
 use Rattle.worker_journal.specs.EntryLine.{Entry}
 use Rattle.model_workers.specs.Files.Files.{Form}
+use Rattle.worker.specs.EntryJson.{AreOfBytes}
 use Rattle.stream_drain.specs.Line.{line_in}
 
--- these are bytes
-abbrev pub AreBytes : List ℕ → Type 0
-AreBytes xs = AllByRecursion (λ b. b < 256) xs
-
--- so are the names and the values of an entry
+-- the names and the values of an entry are bytes
 abbrev pub IsOfBytes : Entry → Type 0
-IsOfBytes e = AllByRecursion (λ p. AreBytes p.0 × AreBytes p.1) e.1
+IsOfBytes e = AreOfBytes e.1
 
 -- the law: two entries with the same line, in text or in JSON, are the same
 abbrev pub LinesTellEntries : Type 0

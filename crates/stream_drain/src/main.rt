@@ -207,7 +207,7 @@ fn make_run<R: Read + Drop, W: Write + Drop, D: LogFile + Drop, T: Clock + Eprin
         run.wait,
         run.until_empty,
     );
-    run.report.letters = count_letters(&run.dead);
+    run.report.counts.letters = count_letters(&run.dead);
     show_report(rt, &run.report)?;
     ended
 }

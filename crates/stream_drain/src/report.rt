@@ -1,9 +1,10 @@
 //! The progress that the program prints on standard error.
 ghost use Rattle.std.specs.Prelude.{◌≡◌, false, true, IsTrue, None, Ok, OnOk, Some};
-ghost use Rattle.stream_drain.specs.Report.{counted, report_text};
+ghost use Rattle.command_lines.specs.Counts.{counts_text};
 
 use crate::backlog::Watched;
 use anyhow::Result;
+use command_lines::Counts;
 use std::rt::Clock;
 use std::time::{Duration, Instant};
 use std::{fmt, mem};
@@ -14,12 +15,10 @@ use std::{fmt, mem};
 pub struct Report {
     /// When the counts were shown last.
     shown: Option<Instant>,
-    entries: u64,
-    batches: u64,
+    /// What was drained and sent.
+    pub counts: Counts,
     /// Whether the first acknowledgement is of entries that were in the file at the start, which is not a batch.
     pub resumes: bool,
-    /// How many dead letters were sent; `None` if none are sent.
-    pub letters: Option<u64>,
     /// Whether nothing is shown before the end.
     quiet: bool,
     /// The group whose backlog is shown with the counts; `None` if it is quiet, or if the server does not return the
@@ -30,16 +29,14 @@ pub struct Report {
 impl Report {
     /// A report with all counts at 0.
     pub fn new(quiet: bool) -> Report
-        ensures counts { (result.entries ≡ 0) × (result.batches ≡ 0) × (result.letters ≡ None)
-            × (result.resumes ≡ false) }
+        ensures counts { (result.counts.entries ≡ 0) × (result.counts.batches ≡ 0)
+            × (result.counts.letters ≡ None) × (result.resumes ≡ false) }
         ensures quiet { result.quiet ≡ quiet }
     {
         Report {
             shown: None,
-            entries: 0,
-            batches: 0,
+            counts: Counts::new(),
             resumes: false,
-            letters: None,
             quiet,
             watched: None,
         }
@@ -62,14 +59,14 @@ impl Report {
     /// Takes the number of entries in the file once an acknowledgement has its reply. Returns whether it is time to
     /// show the counts, which it never is if it is quiet.
     pub fn count<R: Clock>(&mut self, rt: &R, entries: u64) -> Result<bool>
-        ensures counts { OnOk result (self.new.entries ≡ entries) }
+        ensures counts { OnOk result (self.new.counts.entries ≡ entries) }
         ensures quiet { IsTrue self.old.quiet → result ≡ Ok false }
     {
-        self.entries = entries;
         if mem::replace(&mut self.resumes, false) {
+            self.counts.entries = entries;
             return Ok(false);
         }
-        self.batches = self.batches.saturating_add(1);
+        self.counts.count(entries);
         if !self.is_due(rt) {
             return Ok(false);
         }
@@ -87,50 +84,9 @@ fn is_second_ago<R: Clock>(rt: &R, moment: &Instant) -> bool {
 }
 
 impl fmt::Display for Report {
-    ghost output = { λ r. Some (report_text r.entries r.batches r.letters) };
+    ghost output = { λ r. Some (counts_text r.counts.entries r.counts.batches r.counts.letters) };
 
     fn fmt<W: fmt::Write>(&self, f: &mut fmt::Formatter<W>) -> fmt::Result {
-        let entries = Counted {
-            number: self.entries,
-            one: " entry",
-            many: " entries",
-        };
-        let batches = Counted {
-            number: self.batches,
-            one: " batch",
-            many: " batches",
-        };
-        match self.letters {
-            Some(letters) => {
-                let letters = Counted {
-                    number: letters,
-                    one: " dead letter",
-                    many: " dead letters",
-                };
-                write!(f, "{entries} in {batches}, {letters}")
-            }
-            None => write!(f, "{entries} in {batches}"),
-        }
-    }
-}
-
-/// A number and its noun, in the singular or the plural.
-#[derive(Clone, Copy)]
-struct Counted {
-    number: u64,
-    one: &'static str,
-    many: &'static str,
-}
-
-impl fmt::Display for Counted {
-    ghost output = { λ c. Some (counted c.number c.one.now c.many.now) };
-
-    fn fmt<W: fmt::Write>(&self, f: &mut fmt::Formatter<W>) -> fmt::Result {
-        let Counted { number, one, many } = *self;
-        if number == 1 {
-            write!(f, "{number}{one}")
-        } else {
-            write!(f, "{number}{many}")
-        }
+        self.counts.fmt(f)
     }
 }

@@ -1,4 +1,3 @@
 -- What the program's contracts speak of.
 pub mod Options
-pub mod Report
 pub mod Forwards

@@ -8,8 +8,8 @@ ghost use Rattle.worker.specs.Session.{standing_of};
 pub mod forward;
 
 use crate::masked::Masked;
-use crate::report::Report;
 use anyhow::{Error, Result, anyhow, bail};
+use command_lines::Counts;
 use redis_connection::{Connection, ConnectionError};
 use redis_wire::Fault as WireFault;
 use std::alloc::Global;
@@ -48,7 +48,7 @@ pub fn drain<R: Read + Drop, W: Write + Drop, T: Table + Drop, P: Eprint + Alloc
     connection: &mut Connection<R, W>,
     worker: &mut Worker,
     rows: &mut Rows<T>,
-    report: &mut Report,
+    counts: &mut Counts,
     dead: &mut Option<DeadLetterSearch>,
     until_empty: bool,
 ) -> Result<Drained>
@@ -64,7 +64,7 @@ pub fn drain<R: Read + Drop, W: Write + Drop, T: Table + Drop, P: Eprint + Alloc
 {
     let mut asked = Asked::Nothing;
     for _ in 0..u64::MAX {
-        let last = turn(rt, connection, worker, rows, report, dead, asked)?;
+        let last = turn(rt, connection, worker, rows, counts, dead, asked)?;
         asked = last.asked;
         if until_empty && asked == Asked::New && rows.seen == last.before {
             return Ok(Drained { last });
@@ -79,7 +79,7 @@ fn turn<R: Read + Drop, W: Write + Drop, T: Table + Drop, P: Eprint + AllocGloba
     connection: &mut Connection<R, W>,
     worker: &mut Worker,
     rows: &mut Rows<T>,
-    report: &mut Report,
+    counts: &mut Counts,
     dead: &mut Option<DeadLetterSearch>,
     asked: Asked,
 ) -> Result<TurnMade>
@@ -103,7 +103,7 @@ fn turn<R: Read + Drop, W: Write + Drop, T: Table + Drop, P: Eprint + AllocGloba
     )?;
     let made = round(rt.alloc(), connection, worker, rows, dead.is_none())?;
     if made.acknowledged || made.round.asked == Asked::Acknowledgement {
-        report.count(rows.committed);
+        counts.count(rows.committed);
     }
     say_left(rt, left, rows.left, &rows.fault, &rows.undone)?;
     Ok(TurnMade {

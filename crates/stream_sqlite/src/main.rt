@@ -28,15 +28,13 @@ ghost use Rattle.std.specs.Process.{exit_status};
 mod drain;
 mod masked;
 mod options;
-mod report;
 
 use crate::drain::forward::forward;
 use crate::drain::{Drained, drain};
 use crate::masked::Masked;
 use crate::options::{Options, TABLE, options_of};
-use crate::report::Report;
 use anyhow::{Context, Error, Result, anyhow};
-use command_lines::tell;
+use command_lines::{Counts, tell};
 use redis_connection::Connection;
 use redis_wire::Limits;
 use sqlite::{Alter, File as DatabaseFile, FileStore};
@@ -192,18 +190,18 @@ fn drain_over<R: Read + Drop, W: Write + Drop, T: Table + Drop, P: Eprint + Allo
     let mut dead = dead_of(alloc, &mut settings, dead)?;
     rows.leave_unfit(dead.is_some());
     let mut worker = Worker::new(alloc, settings);
-    let mut report = Report::new();
+    let mut counts = Counts::new();
     let ended = drain(
         rt,
         &mut connection,
         &mut worker,
         rows,
-        &mut report,
+        &mut counts,
         &mut dead,
         until_empty,
     );
-    report.letters = dead.map(|dead| dead.letters());
-    eprintln!(rt; "{report}")?;
+    counts.letters = dead.map(|dead| dead.letters());
+    eprintln!(rt; "{counts}")?;
     ended
 }
 
@@ -236,19 +234,19 @@ fn forward_over<R: Read + Drop, W: Write + Drop, T: WithOutbox + Drop, P: Eprint
     let mut dead = dead_of(alloc, &mut settings, dead)?;
     rows.leave_unfit(dead.is_some());
     let mut worker = Worker::new(alloc, settings);
-    let mut report = Report::new();
+    let mut counts = Counts::new();
     let ended = forward(
         rt,
         &mut connection,
         &mut worker,
         rows,
-        &mut report,
+        &mut counts,
         &mut dead,
         until_empty,
     );
-    report.letters = dead.map(|dead| dead.letters());
+    counts.letters = dead.map(|dead| dead.letters());
     let sent = rows.sent;
-    eprintln!(rt; "{report}, {sent} sent on")?;
+    eprintln!(rt; "{counts}, {sent} sent on")?;
     ended
 }
 

@@ -14,3 +14,4 @@ pub mod LifeLemmas
 pub mod ConfirmLemmas
 pub mod DeadLettersLemmas
 pub mod OutboxLemmas
+pub mod EntryJsonLemmas

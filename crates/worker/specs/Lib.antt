@@ -23,3 +23,4 @@ pub mod Life
 pub mod Confirm
 pub mod DeadLetters
 pub mod Outbox
+pub mod EntryJson

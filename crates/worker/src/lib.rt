@@ -6,6 +6,7 @@ mod commands;
 pub mod confirm;
 pub mod dead_letters;
 mod entries;
+pub mod entry_json;
 mod error;
 mod gathered;
 mod handler;

@@ -5,4 +5,3 @@ pub mod TalkLemmas
 mod AcknowledgedLemmas
 mod AddedLemmas
 mod NotedLemmas
-pub mod EntryJsonLemmas

@@ -1,8 +1,8 @@
 -- A line tells its entry.
 use Rattle.std.proofs.Common.{◌≡◌, ap₂, refl, ℕ, List, ◌++◌, true, false}
-use Rattle.worker_jobs.specs.EntryJson.Fields.{AreOfBytes, are_texts, fields_tokens}
-use Rattle.worker_jobs.proofs.EntryJsonLemmas.SameLemmas.{fields_once, same_tokens}
-use Rattle.worker_jobs.proofs.EntryJsonLemmas.TokensLemmas.{both_texts, fields_texts, no_end}
+use Rattle.worker.specs.EntryJson.{AreOfBytes, are_texts, fields_tokens}
+use Rattle.worker.proofs.EntryJsonLemmas.SameLemmas.{fields_once, same_tokens}
+use Rattle.worker.proofs.EntryJsonLemmas.TokensLemmas.{both_texts, fields_texts, no_end}
 use Rattle.model_server.specs.Group.Worker.{Entry}
 use Rattle.stream_in_place.specs.Sent.{Pairs}
 use Rattle.worker_jobs.specs.LineOf.{line_of, line_tokens, stream_tokens}

@@ -8,4 +8,3 @@ pub mod Steady
 pub mod Talk
 pub mod Tell
 pub mod Acknowledged
-pub mod EntryJson

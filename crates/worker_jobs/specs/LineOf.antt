@@ -1,6 +1,6 @@
 -- The line of an entry.
 use Rattle.std.specs.Prelude.{ℕ, List, [], ◌∷◌, ◌++◌, codes}
-use Rattle.worker_jobs.specs.EntryJson.Fields.{fields_tokens}
+use Rattle.worker.specs.EntryJson.{fields_tokens}
 use Rattle.json.specs.Print.{print}
 use Rattle.json.specs.Token.{Token, begin_object, end_object, key, string}
 use Rattle.model_server.specs.Group.Worker.{Entry}

@@ -1,6 +1,6 @@
 -- A line determines its entry.
 use Rattle.std.specs.Prelude.{◌≡◌, List, ℕ}
-use Rattle.worker_jobs.specs.EntryJson.Fields.{AreOfBytes}
+use Rattle.worker.specs.EntryJson.{AreOfBytes}
 use Rattle.model_server.specs.Group.Worker.{Entry}
 use Rattle.stream_in_place.specs.Sent.{Pairs}
 use Rattle.worker_jobs.specs.LineOf.{line_of}

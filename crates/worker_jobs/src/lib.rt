@@ -7,7 +7,6 @@
 #![tactic(auto)]
 
 mod added;
-pub mod entry_json;
 mod fault;
 mod jobs;
 pub mod laws;

@@ -5,10 +5,10 @@ ghost use Rattle.json.specs.Token.{begin_object, key, string};
 ghost use Rattle.worker_jobs.specs.LineOf.{head_tokens, line_of, line_tokens, stream_tokens};
 ghost use Rattle.worker.specs.Handling.{pair_of};
 
-use crate::entry_json::push_fields;
 use json::Writer;
 use std::alloc::{AllocError, Global};
 use worker::EntryRef;
+use worker::entry_json::push_fields;
 
 /// The line of an entry of this stream, without its end:
 /// `{"id":"1-0","fields":[["name","value"],..],"stream":"orders"}`.

@@ -1,5 +1,4 @@
 -- Lemmas.
-mod FieldsLemmas
 mod CellsLemmas
 mod KeptLemmas
 pub mod LivedLemmas

@@ -11,7 +11,7 @@ use Rattle.stream_in_place.specs.FieldValue.{text_value, signed_value}
 use Rattle.stream_in_place.specs.Sent.{Pairs}
 use Rattle.stream_in_place.specs.declared.field_value.FieldError.{FieldError}
 use Rattle.stream_in_place.specs.declared.field_value.FieldError.TheVariants.{Missing, NotText, NotNumber}
-use Rattle.worker_table.specs.Fields.{fields_tokens}
+use Rattle.worker.specs.EntryJson.{fields_tokens}
 
 -- the cell of a value that was read
 abbrev pub cell_by : {X : Type 0} → (X → Cell) → Result X FieldError → Result Cell FieldError

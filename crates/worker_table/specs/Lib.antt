@@ -1,5 +1,4 @@
 -- The definitions that the contracts use.
-pub mod Fields
 pub mod Cells
 pub mod Reasons
 pub mod Kept

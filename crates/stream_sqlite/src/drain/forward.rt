@@ -6,8 +6,8 @@ ghost use Rattle.worker_table.specs.Lived.{Leads};
 ghost use Rattle.worker.specs.Session.{standing_of};
 
 use super::{Drained, TurnMade, explain_round_error, goes_on, look, say_left};
-use crate::report::Report;
 use anyhow::{Error, Result, anyhow, bail};
+use command_lines::Counts;
 use redis_connection::Connection;
 use std::alloc::Global;
 use std::io::{Read, Write};
@@ -23,7 +23,7 @@ pub fn forward<R: Read + Drop, W: Write + Drop, T: WithOutbox + Drop, P: Eprint 
     connection: &mut Connection<R, W>,
     worker: &mut Worker,
     rows: &mut Forwarding<T>,
-    report: &mut Report,
+    counts: &mut Counts,
     dead: &mut Option<DeadLetterSearch>,
     until_empty: bool,
 ) -> Result<Drained>
@@ -42,7 +42,7 @@ pub fn forward<R: Read + Drop, W: Write + Drop, T: WithOutbox + Drop, P: Eprint 
     let mut asked = Asked::Nothing;
     for _ in 0..u64::MAX {
         let seen = rows.seen;
-        asked = pass(rt, connection, worker, rows, report, dead, asked)?;
+        asked = pass(rt, connection, worker, rows, counts, dead, asked)?;
         if until_empty && asked == Asked::New && rows.seen == seen {
             let before = seen;
             return Ok(Drained {
@@ -59,7 +59,7 @@ fn pass<R: Read + Drop, W: Write + Drop, T: WithOutbox + Drop, P: Eprint + Alloc
     connection: &mut Connection<R, W>,
     worker: &mut Worker,
     rows: &mut Forwarding<T>,
-    report: &mut Report,
+    counts: &mut Counts,
     dead: &mut Option<DeadLetterSearch>,
     asked: Asked,
 ) -> Result<Asked>
@@ -74,7 +74,7 @@ fn pass<R: Read + Drop, W: Write + Drop, T: WithOutbox + Drop, P: Eprint + Alloc
         (standing_of worker.new (⟦<Forwarding<T> as Handler>⟧.history rows.new))) }
 {
     send(rt.alloc(), connection, rows)?;
-    turn(rt, connection, worker, rows, report, dead, asked)
+    turn(rt, connection, worker, rows, counts, dead, asked)
 }
 
 /// Forwards what is committed.
@@ -116,7 +116,7 @@ fn turn<R: Read + Drop, W: Write + Drop, T: WithOutbox + Drop, P: Eprint + Alloc
     connection: &mut Connection<R, W>,
     worker: &mut Worker,
     rows: &mut Forwarding<T>,
-    report: &mut Report,
+    counts: &mut Counts,
     dead: &mut Option<DeadLetterSearch>,
     asked: Asked,
 ) -> Result<Asked>
@@ -138,7 +138,7 @@ fn turn<R: Read + Drop, W: Write + Drop, T: WithOutbox + Drop, P: Eprint + Alloc
     )?;
     let asked = round(rt.alloc(), connection, worker, rows)?;
     if asked == Asked::Acknowledgement {
-        report.count(rows.committed);
+        counts.count(rows.committed);
     }
     say_left(rt, left, rows.left, &rows.fault, &rows.undone)?;
     Ok(asked)

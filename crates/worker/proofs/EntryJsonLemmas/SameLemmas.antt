@@ -13,7 +13,7 @@ use Rattle.json.specs.Token.{key, string, number, boolean, null, bad}
 use Rattle.json.specs.Lex.{tokens}
 use Rattle.json.specs.Print.{print, ArePrintable}
 use Rattle.json.proofs.Printed.Tokens.{tokens-print}
-use Rattle.worker_jobs.specs.EntryJson.Fields.{AreBytes, AreOfBytes, are_texts, base64_tokens, bytes_tokens, field_tokens, fields_tokens}
+use Rattle.worker.specs.EntryJson.{AreBytes, AreOfBytes, are_texts, base64_tokens, bytes_tokens, field_tokens, fields_tokens}
 
 -- ---- the tokens of a line
 

@@ -2,9 +2,9 @@ use Rattle.std.proofs.Common.{◌≡◌, ◌∙◌, ◌++◌, ◌∷◌, [], ap,
 use Rattle.std.specs.Prelude.{OnOk}
 use Rattle.std.proofs.lemmas.Str.{is_utf8-from_IsUtf8}
 use Rattle.json.specs.Token.{Token, string}
-use Rattle.stream_drain.specs.Line.{bytes_tokens}
-use Rattle.stream_drain.proofs.JsonLemmas.{other_tokens, text_tokens}
-use Rattle.stream_drain.proofs.json_lines.push_text.Goals as goal
+use Rattle.worker.specs.EntryJson.{bytes_tokens}
+use Rattle.worker.proofs.EntryJsonLemmas.TokensLemmas.{other_tokens, text_tokens}
+use Rattle.worker.proofs.entry_json.push_text.Goals as goal
 
 pub returns-in-Ok-clause-tokens : goal.returns-in-Ok-clause-tokens
 returns-in-Ok-clause-tokens c =

@@ -1,4 +1,4 @@
--- The progress that the program prints.
+-- The counts of a drain, as a program shows them.
 use Rattle.std.specs.Prelude.{◌==◌, ℕ, List, Option, Some, None, ◌++◌, codes, decimal, if◌then◌else◌}
 
 -- a number and its noun, in the singular or the plural
@@ -6,8 +6,8 @@ abbrev pub counted : ℕ → List ℕ → List ℕ → List ℕ
 counted number one many = decimal number ++ (if number == 1 then one else many)
 
 -- the number of entries, of batches, and of letters if any may be sent
-abbrev pub report_text : ℕ → ℕ → Option ℕ → List ℕ
-report_text entries batches None = counted entries (codes " entry") (codes " entries") ++ codes " in "
+abbrev pub counts_text : ℕ → ℕ → Option ℕ → List ℕ
+counts_text entries batches None = counted entries (codes " entry") (codes " entries") ++ codes " in "
     ++ counted batches (codes " batch") (codes " batches")
-report_text entries batches (Some letters) = counted entries (codes " entry") (codes " entries") ++ codes " in "
+counts_text entries batches (Some letters) = counted entries (codes " entry") (codes " entries") ++ codes " in "
     ++ (counted batches (codes " batch") (codes " batches") ++ codes ", " ++ counted letters (codes " dead letter") (codes " dead letters"))

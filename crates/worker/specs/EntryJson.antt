@@ -1,4 +1,4 @@
--- The JSON tokens of fields.
+-- The fields of an entry as JSON.
 use Rattle.std.specs.Prelude.{ℕ, List, [], ◌∷◌, ◌++◌, ◌<◌, flat_map, codes, Bool, true, false, if◌then◌else◌}
 use Rattle.std.specs.List.{AllByRecursion, list_all}
 use Rattle.std.specs.Str.{is_utf8}

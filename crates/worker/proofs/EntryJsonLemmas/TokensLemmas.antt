@@ -11,8 +11,8 @@ use Rattle.json.specs.Token.{key, string, number, boolean, null, bad}
 use Rattle.json.specs.Print.{begins, ends, escape, escape_byte, escape_letter, print_from, separator, token_text}
 use Rattle.std.specs.Str.{IsUtf8, is_utf8}
 use Rattle.std.proofs.lemmas.Str.{IsUtf8-from_is_utf8}
-use Rattle.worker_jobs.specs.EntryJson.Fields.{are_texts, is_text_or_bracket}
-use Rattle.worker_jobs.specs.EntryJson.Fields.{base64_tokens, bytes_tokens, field_tokens, fields_tokens}
+use Rattle.worker.specs.EntryJson.{are_texts, is_text_or_bracket}
+use Rattle.worker.specs.EntryJson.{base64_tokens, bytes_tokens, field_tokens, fields_tokens}
 
 -- no line ends in these bytes
 abbrev HasNoEnd : List ℕ → Type 0

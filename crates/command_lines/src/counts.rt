@@ -1,41 +1,42 @@
-//! The report of the program on its progress.
-ghost use Rattle.std.specs.Prelude.{◌≡◌, None, Some};
-ghost use Rattle.stream_sqlite.specs.Report.{counted, report_text};
+//! What a drain counts, and shows on standard error.
+ghost use Rattle.std.specs.Prelude.{◌≡◌, ◌+◌, min, None, Some};
+ghost use Rattle.command_lines.specs.Counts.{counted, counts_text};
 
 use std::fmt;
 
-/// Counts, which are shown at the end.
+/// The counts of a drain, which are shown at its end.
 #[derive(Clone, Copy)]
-pub struct Report {
+pub struct Counts {
+    /// How many entries were drained.
     pub entries: u64,
     pub batches: u64,
-    /// How many dead letters were sent, if any may be.
+    /// How many dead letters were sent; `None` if none are sent.
     pub letters: Option<u64>,
 }
 
-impl Report {
-    /// Nothing was done yet.
-    pub fn new() -> Report
+impl Counts {
+    /// All counts at 0, and no dead letters.
+    pub fn new() -> Counts
         ensures { (result.entries ≡ 0) × (result.batches ≡ 0) × (result.letters ≡ None) }
     {
-        Report {
+        Counts {
             entries: 0,
             batches: 0,
             letters: None,
         }
     }
 
-    /// Counts one more batch, and this many more entries in the table.
+    /// Counts one more batch, after which this many entries were drained.
     pub fn count(&mut self, entries: u64)
-        ensures { self.new.entries ≡ entries }
+        ensures { self.new ≡ record self.old { entries = entries; batches = min (self.old.batches + 1) 18446744073709551615 } }
     {
         self.entries = entries;
         self.batches = self.batches.saturating_add(1);
     }
 }
 
-impl fmt::Display for Report {
-    ghost output = { λ r. Some (report_text r.entries r.batches r.letters) };
+impl fmt::Display for Counts {
+    ghost output = { λ r. Some (counts_text r.entries r.batches r.letters) };
 
     fn fmt<W: fmt::Write>(&self, f: &mut fmt::Formatter<W>) -> fmt::Result {
         let entries = Counted {
@@ -62,7 +63,7 @@ impl fmt::Display for Report {
     }
 }
 
-/// A number and what it counts, in the singular or the plural.
+/// A number and its noun, in the singular or the plural.
 #[derive(Clone, Copy)]
 struct Counted {
     number: u64,

@@ -1,8 +1,8 @@
 use Rattle.std.proofs.Common.{◌≡◌, ◌++◌, flat_map}
-use Rattle.worker_table.specs.Fields.{field_tokens}
-use Rattle.worker_table.proofs.fields.push_fields.Given as goal
+use Rattle.worker.specs.EntryJson.{field_tokens}
+use Rattle.worker.proofs.entry_json.push_each.Given as goal
 
--- the tokens so far, followed by those that are left, are all tokens
+-- the tokens so far, and behind them those that are left, are all
 abbrev pub invariant-loop-name : goal.invariant-loop-name
 invariant-loop-name l = record {
   before : l.out.before ≡ l.fn.out.before;

@@ -1,7 +1,8 @@
-//! The fields of an entry as an array of JSON.
+//! The fields of an entry as JSON: `[["name","value"],..]`, in order and with repeated ones. A name or a value that
+//! is not UTF-8 is `{"base64":"..."}`.
 ghost use Rattle.std.specs.Prelude.{◌≡◌, ◌++◌, ◌∷◌, [], OnOk, codes, flat_map};
 ghost use Rattle.json.specs.Token.{begin_object, end_object, key, string};
-ghost use Rattle.worker_jobs.specs.EntryJson.Fields.{base64_tokens, bytes_tokens, field_tokens, fields_tokens};
+ghost use Rattle.worker.specs.EntryJson.{base64_tokens, bytes_tokens, field_tokens, fields_tokens};
 
 use base64::engine::general_purpose::STANDARD;
 use json::Writer;

@@ -1,2 +1,0 @@
--- The fields of an entry as JSON.
-pub mod Fields
