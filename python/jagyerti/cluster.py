@@ -80,7 +80,7 @@ class Nodes:
             except connect.Failed as error:
                 failed = error
             except resp.ReplyError as error:
-                failed = connect.Failed(f"CLUSTER SLOTS: the server answers {error}")
+                failed = connect.Failed(f"CLUSTER SLOTS: the server replied {error}")
             except (OSError, resp.ProtocolError) as error:
                 failed = connect.Failed(f"{host}:{port}: {error}")
         raise failed

@@ -112,7 +112,7 @@ def _log_in(connection: socket.socket, address: Address, options: Options) -> No
         try:
             resp.ask(connection, *words)
         except resp.ReplyError as error:
-            raise Failed(f"{words[0]}: the server answers {error}") from None
+            raise Failed(f"{words[0]}: the server replied {error}") from None
 
 
 def _greeting(address: Address, options: Options) -> List[List[Union[str, int]]]:

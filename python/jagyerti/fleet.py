@@ -19,7 +19,7 @@ from .tries import Plan, Stopped, Tries
 from .url import Address
 
 FIRST_PAUSE = 0.1  # seconds
-ANSWERED = "the server answers "
+ANSWERED = "the server replied "
 BROKE = re.compile("the server closed the connection|cannot (read from|write to) the server")
 HEAD = ("PARTITION", "NODE", "STATE", "ENTRIES", "TO COME", "PENDING", "STARTS", "MOVED", "ASK", "WAITS")
 COLUMNS = ("entries", "to_come", "pending", "starts", "moved", "ask", "waits")

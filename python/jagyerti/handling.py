@@ -28,7 +28,7 @@ COUNTS = re.compile(r"done ([0-9]+), batches ([0-9]+), left pending ([0-9]+)(?:,
 FAILED_JOB = re.compile(r"the child(?:'s reply| has no reply) to the entry ([0-9]+-[0-9]+)")
 REFUSED = re.compile("Error: the child's reply to the entry ([0-9]+-[0-9]+) ")
 NOTE = re.compile("([0-9]+-[0-9]+) ((?:later|dead): .*)")
-NO_GROUP = "the server answers NOGROUP"
+NO_GROUP = "the server replied NOGROUP"
 
 
 class Pair(Tries):

@@ -31,7 +31,7 @@ def ask(*command):
     try:
         return resp.ask(connection, *command)
     except resp.ReplyError as error:
-        end(1, "%s of entries: the server answers %s" % (command[0], error))
+        end(1, "%s of entries: the server replied %s" % (command[0], error))
     except OSError:
         end(1, command[0] + ": the server closed the connection")
 

@@ -57,7 +57,7 @@ class Connect(unittest.TestCase):
 
     def test_refused_login(self):
         with scripted([b"-WRONGPASS invalid username-password pair\r\n"]) as (port, _):
-            self.fails(f"redis://:secret@127.0.0.1:{port}", 1, "AUTH: the server answers WRONGPASS")
+            self.fails(f"redis://:secret@127.0.0.1:{port}", 1, "AUTH: the server replied WRONGPASS")
 
     def test_no_server(self):
         self.fails(f"redis://127.0.0.1:{server.free_port()}", 1, "no connection with 127.0.0.1:")

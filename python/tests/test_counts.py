@@ -73,7 +73,7 @@ class Words(unittest.TestCase):
 
     def test_other_errors_and_programs(self):
         one, foreign = counts.Counts(["k"], 1000), counts.Counts(["k", "--count", "50"], None)
-        for error in ("", "Error: the server answers ERR take a smaller --count", f"Error: it said: {LARGE[7:-1]}"):
+        for error in ("", "Error: the server replied ERR take a smaller --count", f"Error: it said: {LARGE[7:-1]}"):
             self.assertFalse(one.take_end(error, True))
         self.assertFalse(foreign.take_end(LARGE.rstrip(), True))
         self.assertEqual((one.now, foreign.in_words(["k", "--count", "50"])), (1000, ["k", "--count", "50"]))

@@ -12,7 +12,7 @@ from .scripted import scripted
 
 PROGRAM = """#!/bin/sh
 echo "0 entries in 0 batches" >&2
-echo "Error: the server answers NOGROUP No such key" >&2
+echo "Error: the server replied NOGROUP No such key" >&2
 echo "With --from 0 a group that is missing is made." >&2
 exit 1
 """
@@ -33,7 +33,7 @@ class Remedies(unittest.TestCase):
             one.target = "127.0.0.1", port
             with contextlib.redirect_stderr(said):
                 self.assertEqual(one.try_all(), 1)
-        self.assertEqual(said.getvalue(), "jagyerti drain: orders:{0}: the server answers NOGROUP No such key\n"
+        self.assertEqual(said.getvalue(), "jagyerti drain: orders:{0}: the server replied NOGROUP No such key\n"
                          "jagyerti drain: orders:{0}: With --from 0 a group that is missing is made.\n")
 
 

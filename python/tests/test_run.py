@@ -114,7 +114,7 @@ class Run(Running):
         self.assertEqual(said.count("the handler wrote a line before it was asked"), 5)
 
     def test_a_group_that_is_missing(self):
-        text = "Error: XREADGROUP of pending entries: the server answers NOGROUP No such key"
+        text = "Error: XREADGROUP of pending entries: the server replied NOGROUP No such key"
         program = self.fake(f"print('done 0, batches 0, left pending 0\\n{text}', file=sys.stderr); sys.exit(1)")
         self.listener.listen(16)
         running = self.start("run", self.url, "k", "g", "--program", program, "--", sys.executable, "-c", "input()")

@@ -62,7 +62,7 @@ class Nodes(unittest.TestCase):
 
     def test_no_cluster(self):
         with scripted([b"-ERR This instance has cluster support disabled\r\n"]) as (port, _):
-            with self.assertRaisesRegex(connect.Failed, "the server answers ERR This instance has cluster support disabled"):
+            with self.assertRaisesRegex(connect.Failed, "the server replied ERR This instance has cluster support disabled"):
                 self.nodes(port).find_master(5)
 
 

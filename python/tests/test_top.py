@@ -187,7 +187,7 @@ class TopTest(unittest.TestCase):
         self.server.ask("SET", "text", "x")
         one = self.terminal(self.server.url, "orders", "text")
         self.assertEqual(one.wait(), (1, True))
-        self.assertIn("text: Error: the server answers WRONGTYPE", one.text)
+        self.assertIn("text: Error: the server replied WRONGTYPE", one.text)
         one = self.terminal(f"redis://127.0.0.1:{server.free_port()}", "orders")
         self.assertEqual(one.wait(), (1, True))
         self.assertIn("no connection", one.text)
@@ -223,7 +223,7 @@ class TopTest(unittest.TestCase):
         status, shown, _ = called("top", self.server.url, "--once", "orders")
         self.assertEqual((status, shown.splitlines()[0]), (0, "orders: 2 entries, 1 groups, last id 6-0"))
         status, shown, error = called("top", self.server.url, "--once", "nothing")
-        self.assertEqual((status, shown, error), (1, "", "jagyerti top: Error: the server answers ERR no such key\n"))
+        self.assertEqual((status, shown, error), (1, "", "jagyerti top: Error: the server replied ERR no such key\n"))
         self.assertEqual(called("top", self.server.url, "--json", "--", "--once")[0], 0)
 
     def test_sentinel(self) -> None:

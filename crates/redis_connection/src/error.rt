@@ -92,7 +92,7 @@ pub enum AskError {
     #[error("{0}")]
     Connection(ConnectionError),
     /// The server returned this error.
-    #[error("the server answers {0}")]
+    #[error("the server replied {0}")]
     Server(ServerError),
     /// The reply has no record of the requested type, or an allocation failed.
     #[error("{0}")]

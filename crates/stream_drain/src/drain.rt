@@ -317,7 +317,7 @@ fn show<R: Read + Drop, W: Write + Drop, T: Eprint + AllocGlobal>(
             say(
                 rt,
                 report,
-                &format_args!(", XINFO GROUPS: the server answers {error}"),
+                &format_args!(", XINFO GROUPS: the server replied {error}"),
             )
         }
         Err(AskError::Parsing(error)) => {

@@ -98,7 +98,7 @@ fn text_of(alloc: Global, failure: &Failure) -> Result<String, AllocError> {
 
 /// The code of the server's error that a text names.
 fn find_code(text: &str) -> Option<&str> {
-    let (_, error) = text.split_once("the server answers ")?;
+    let (_, error) = text.split_once("the server replied ")?;
     error.split(' ').next()
 }
 

@@ -118,7 +118,7 @@ fn show_rounds<R: Read + Drop, W: Write + Drop>(
     for round in 0..rounds {
         let (found, now) = ask(alloc, connection, &key.bytes)?;
         let Some(stream) = found else {
-            return Err(anyhow!("the server answers {NO_SUCH_KEY}"));
+            return Err(anyhow!("the server replied {NO_SUCH_KEY}"));
         };
         let text = format_page(alloc, &key.name, &stream, now)?;
         eprint!(rt; "{text}")?;

@@ -65,12 +65,12 @@ pub enum WorkerError {
     NotAsked,
     /// The server returned an error, such as `LOADING` or `READONLY`, or `NOGROUP` to the first command of a worker
     /// that creates no group. `answered` leaves the worker as it was; `round` and `run` begin again.
-    #[error("the server answers {0}")]
+    #[error("the server replied {0}")]
     Server(ServerError),
     /// The group was destroyed: the server returned `NOGROUP` to a command after the first. The worker does not create
     /// it again, since it would start at another id. `answered` leaves the worker as it was; `round` and `run` begin
     /// again.
-    #[error("the group is gone: the server answers {0}")]
+    #[error("the group is gone: the server replied {0}")]
     GroupIsGone(ServerError),
     /// The reply belongs to no command: it is a push message, or an aggregate with an error in it. `answered` leaves
     /// the worker as it was; `round` and `run` begin again.

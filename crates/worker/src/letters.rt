@@ -31,7 +31,7 @@ pub enum LetterError {
     #[error("an answer to no question")]
     NotAsked,
     /// The server returned an error.
-    #[error("the server answers {0}")]
+    #[error("the server replied {0}")]
     Server(ServerError),
     /// The reply to XADD is not an id, or the reply to XACK is not a number.
     #[error("no answer of the command")]

@@ -56,7 +56,7 @@ pub enum FeedError {
     #[error("an answer to no question")]
     NotAsked,
     /// The server returned an error, such as `EXECABORT`, `OOM` or `WRONGTYPE`.
-    #[error("the server answers {0}")]
+    #[error("the server replied {0}")]
     Server(ServerError),
     /// The reply is not of the kind that the command returns.
     #[error("no answer of a command")]

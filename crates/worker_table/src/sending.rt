@@ -44,7 +44,7 @@ pub enum PostError {
     #[error("{0}")]
     Connection(ConnectionError),
     /// The server refused the command.
-    #[error("the server answers {0}")]
+    #[error("the server replied {0}")]
     Refused(ServerError),
     /// The reply does not fit the command.
     #[error("no answer of a command")]

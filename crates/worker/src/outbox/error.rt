@@ -17,7 +17,7 @@ pub enum OutboxError {
     #[error("{0}")]
     Connection(ConnectionError),
     /// The server returned an error to a command. It and those after it stay in the outbox, and are sent again.
-    #[error("the server answers {0}")]
+    #[error("the server replied {0}")]
     Refused(ServerError),
     /// The reply is an aggregate with an error in it.
     #[error("no answer of a command")]

@@ -12,12 +12,15 @@ use Rattle.worker_journal.specs.declared.known_ids.known.KnownId.{KnownId}
 abbrev pub Place : Type 0
 Place = ℕ × ℕ
 
+-- the number of a kept id, of 128 bits
 abbrev pub number_in : KnownId → ℕ
 number_in id = id.ms * 18446744073709551616 + id.seq
 
+-- its number, with the offset of its line
 abbrev pub place_in : KnownId → Place
 place_in id = (number_in id, id.place)
 
+-- those of all kept ids
 abbrev pub places_in : List KnownId → List Place
 places_in ids = map place_in ids
 
