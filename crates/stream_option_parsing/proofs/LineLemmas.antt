@@ -1,10 +1,10 @@
 -- Pieces, and bytes prepended to them.
 use denote.Ref.{Bor}
 use Rattle.std.specs.Global.{Vec}
-use Rattle.std.proofs.lemmas.List.{map-append}
+use Rattle.std.proofs.lemmas.List.{map-append, nil_from_length}
 use Rattle.std.proofs.Common.{◌≡◌, ℕ, suc, ◌+◌, ◌-◌, ◌<◌, ◌≤◌, Bool, true, false, cond, eqb, List, [], ◌∷◌, ◌++◌}
 use Rattle.std.proofs.Common.{length, take, drop, get_or, refl, sym, ◌∙◌, ap, arith, append_assoc, add-one, drop-cons}
-use Rattle.std.proofs.Common.{Option, Some, None}
+use Rattle.std.proofs.Common.{◌≢◌, length-append, Option, Some, None}
 use Rattle.std.proofs.lemmas.Grind.{common_steps}
 use Rattle.std.proofs.Math.Seq.{take-suc}
 use Rattle.stream_option_parsing.specs.Lines.{onto, pieces, lines_of, parts_of, with_front, pieces_from, parts_left}
@@ -94,3 +94,17 @@ args_more args new arg front rest left after all so_far is e f g = rw (g, map-ap
     (append_assoc (arguments args) (front ∷ []) (parts_left after)
     ∙ ap (λ t. arguments args ++ t) (sym (parts_are rest.now front after e))
     ∙ ap (λ t. arguments args ++ parts_left t) (sym is) ∙ so_far)
+
+-- if a part is left there is an argument
+pub some_left : (args : List (Vec ℕ)) (front : List ℕ) (rest : Bor (List ℕ)) (left after : Option (Bor (List ℕ)))
+    (all : List (List ℕ)) → arguments args ++ parts_left left ≡ all → left ≡ Some rest
+    → pieces 32 ([] ∷ []) rest.now ≡ pieces_from 32 ([] ∷ []) front after → all ≢ []
+some_left args front rest left after all so_far is e none =
+    let parts : parts_left left ≡ front ∷ parts_left after = ap parts_left is ∙ parts_are rest.now front after e in
+    omega (arith, ap length (so_far ∙ none), length-append (arguments args) (parts_left left), ap length parts)
+
+-- a line with an argument is not a single part
+pub not_alone : (line front : List ℕ) (after : Option (Bor (List ℕ)))
+    → pieces 32 ([] ∷ []) line ≡ pieces_from 32 ([] ∷ []) front after → parts_left after ≢ [] → parts_of line ≢ line ∷ []
+not_alone line front after e some alone =
+    some (nil_from_length _ (omega (arith, ap length (sym (parts_are line front after e) ∙ alone))))

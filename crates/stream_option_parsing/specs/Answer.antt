@@ -1,5 +1,7 @@
 -- The output for an input.
-use Rattle.std.specs.Prelude.{◌≡◌, ℕ, List, [], ◌∷◌, ◌++◌, codes, decimal, Option, Some, None, if◌then◌else◌}
+use Rattle.std.specs.Prelude.{◌≡◌, ◌≤◌, ◌+◌, ℕ, List, [], ◌∷◌, ◌++◌, All, length, vec_len, vec_capacity}
+use Rattle.std.specs.Prelude.{codes, decimal, Option, Some, None, if◌then◌else◌}
+use Rattle.std.specs.Global.{Vec}
 use Rattle.std.specs.Str.{bytes_eq}
 use Rattle.stream_options.specs.Add.{AddFits, add_sentence, add_words}
 use Rattle.stream_options.specs.AutoClaim.{AutoClaimFits, autoclaim_sentence, autoclaim_words}
@@ -85,3 +87,23 @@ AnswersLines (line ∷ lines) text = (reply : Reply) × (rest : List ℕ) × IsR
 -- the output for an input
 abbrev pub IsAnswer : List ℕ → List ℕ → Type 0
 IsAnswer input answer = AnswersLines (lines_of input) answer
+
+-- ---- for the functions within
+
+-- the output for an input was appended
+abbrev pub AppendsAnswer : List ℕ → List ℕ → List ℕ → Type 0
+AppendsAnswer input old new = (answer : List ℕ) × IsAnswer input answer × (new ≡ old ++ answer)
+
+-- a line with no argument, whose word is no type
+pub record IsUnknownWord (line : List ℕ) : Type 0 where
+  pub alone : parts_of line ≡ line ∷ []
+  pub no_type : type_of line ≡ None
+
+-- the capacity is enough for the output for the input
+abbrev pub HasRoomFor : List ℕ → Vec ℕ → Type 0
+HasRoomFor input output = (answer : List ℕ) × IsAnswer input answer
+    × (vec_len output + length answer ≤ vec_capacity output)
+
+-- no memory is needed: each line is such a word, and there is room for the output
+abbrev pub NeedsNoMemory : List ℕ → Vec ℕ → Type 0
+NeedsNoMemory input output = All IsUnknownWord (lines_of input) × HasRoomFor input output

@@ -1,6 +1,8 @@
 //! The output for an input.
-ghost use Rattle.std.specs.Prelude.{◌≡◌, ◌<◌, ◌++◌, IfOk, OnOk, IfErr, length};
-ghost use Rattle.stream_option_parsing.specs.Answer.{IsAnswer, IsReply, IsReplyOf, type_of, reply_line};
+ghost use Rattle.std.specs.Prelude.{◌≡◌, ◌≢◌, ◌<◌, ◌≤◌, ◌+◌, ◌++◌, None, IfOk, IsOk, OnOk, IfErr, OnErr, length};
+ghost use Rattle.std.specs.Prelude.{vec_len, vec_capacity};
+ghost use Rattle.stream_option_parsing.specs.Answer.{AppendsAnswer, IsReply, IsReplyOf, type_of, reply_line};
+ghost use Rattle.stream_option_parsing.specs.Answer.{IsUnknownWord, NeedsNoMemory};
 ghost use Rattle.stream_option_parsing.specs.AnswerMeaning.{reply_of, verdict_of};
 ghost use Rattle.stream_option_parsing.specs.Lines.{parts_of};
 ghost use Rattle.stream_option_parsing.specs.Split.{arguments};
@@ -26,37 +28,44 @@ pub(crate) enum Reply {
     Count(usize),
 }
 
-/// Returns the output for the whole input. Memory is allocated only if the input has a byte.
-pub(crate) fn answer_to(alloc: Global, input: &[u8]) -> Result<Vec<u8>, RunError>
-    ensures ok { IfOk result (λ answer. IsAnswer input.now answer.items) }
+/// Appends the output for the whole input. Memory is allocated for an argument or a known type, and
+/// where the capacity of the output is too small.
+pub(crate) fn append_replies(
+    alloc: Global,
+    input: &[u8],
+    output: &mut Vec<u8>,
+) -> Result<(), RunError>
+    ensures ok { OnOk result (AppendsAnswer input.now output.old.items output.new.items) }
     ensures err { IfErr result (λ e. e ≡ RunError.Memory) }
-    ensures some { IfErr result (λ _. 0 < length input.now) }
+    ensures some { OnErr result (0 < length input.now) }
+    ensures succeeds { NeedsNoMemory input.now output.old → IsOk result }
 {
-    let mut answer = Vec::new(alloc);
     let mut rest = input;
     'lines: while !rest.is_empty() {
         let (line, after) = cut_line(rest);
         let reply = reply_to_line(alloc, line)?;
-        push_reply(&mut answer, reply)?;
+        push_reply(output, reply)?;
         rest = after;
     }
-    Ok(answer)
+    Ok(())
 }
 
-/// Returns the reply to a line.
+/// Returns the reply to a line. Memory is allocated only for an argument or a known type.
 fn reply_to_line(alloc: Global, line: &[u8]) -> Result<Reply, RunError>
     ensures ok { IfOk result (λ reply. IsReply (parts_of line.now) (reply_of reply)) }
     ensures err { IfErr result (λ e. e ≡ RunError.Memory) }
+    ensures succeeds { IsUnknownWord line.now → IsOk result }
 {
     let (word, args) = cut_parts(alloc, line)?;
     reply_to(alloc, word, &args)
 }
 
-/// Returns the reply to the arguments after a type word.
+/// Returns the reply to the arguments after a type word. Memory is allocated only for a known type.
 fn reply_to(alloc: Global, word: &[u8], args: &[Vec<u8>]) -> Result<Reply, RunError>
     ensures ok { IfOk result (λ reply.
         IsReplyOf (type_of word.now) (arguments args.now) (reply_of reply)) }
     ensures err { IfErr result (λ e. e ≡ RunError.Memory) }
+    ensures known { OnErr result (type_of word.now ≢ None) }
 {
     if word == b"trim".as_slice() {
         reply_of_reading(read_trim(alloc, args))
@@ -88,20 +97,25 @@ fn reply_of_reading<T: Drop>(reading: Result<(T, usize), SentenceError>) -> Resu
     }
 }
 
-/// Appends the line of a reply to the output.
-fn push_reply(answer: &mut Vec<u8>, reply: Reply) -> Result<(), RunError>
-    ensures ok { OnOk result (answer.new.items ≡ answer.old.items ++ reply_line (reply_of reply)) }
+/// Appends the line of a reply to the output. It fails only if the capacity is too small for the line.
+fn push_reply(output: &mut Vec<u8>, reply: Reply) -> Result<(), RunError>
+    ensures ok { OnOk result (output.new.items ≡ output.old.items ++ reply_line (reply_of reply)) }
+    ensures len { OnOk result
+        (vec_len output.new ≡ vec_len output.old + length (reply_line (reply_of reply))) }
+    ensures capacity { vec_capacity output.old ≤ vec_capacity output.new }
     ensures err { IfErr result (λ e. e ≡ RunError.Memory) }
+    ensures full { OnErr result (vec_capacity output.old
+        < vec_len output.old + length (reply_line (reply_of reply))) }
 {
     match reply {
-        Reply::Unknown => answer.extend_from_slice(b"unknown")?,
-        Reply::No => answer.extend_from_slice(b"no")?,
+        Reply::Unknown => output.extend_from_slice(b"unknown")?,
+        Reply::No => output.extend_from_slice(b"no")?,
         Reply::Count(k) => {
             let mut buffer = Buffer::new();
-            answer.extend_from_slice(b"ok ")?;
-            answer.extend_from_slice(buffer.format(k).as_bytes())?;
+            output.extend_from_slice(b"ok ")?;
+            output.extend_from_slice(buffer.format(k).as_bytes())?;
         }
     }
-    answer.push(b'\n')?;
+    output.push(b'\n')?;
     Ok(())
 }

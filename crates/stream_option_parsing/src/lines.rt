@@ -3,7 +3,7 @@ ghost use Rattle.std.specs.Prelude.{◌≡◌, ◌≢◌, ◌<◌, IfErr, OnOk, 
 ghost use Rattle.std.specs.Io.KnownBytes.{Keeps, IsAtEnd};
 ghost use Rattle.stream_option_parsing.specs.Told.{WroteAnswer, WroteAnswerBeginning};
 
-use crate::answer::answer_to;
+use crate::answer::append_replies;
 use crate::device::{read_all, write_whole};
 use crate::run_error::RunError;
 use std::alloc::Global;
@@ -33,6 +33,7 @@ pub fn run<R: Read, W: Write>(alloc: Global, input: &mut R, output: &mut W) -> R
         WroteAnswerBeginning all (W.contents output.old) (W.contents output.new))) }
 {
     let bytes = read_all(alloc, input)?;
-    let answer = answer_to(alloc, &bytes)?;
-    write_whole(output, &answer)
+    let mut replies = Vec::new(alloc);
+    append_replies(alloc, &bytes, &mut replies)?;
+    write_whole(output, &replies)
 }

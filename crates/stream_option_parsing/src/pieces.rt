@@ -1,5 +1,6 @@
 //! Lines, and the parts of a line.
-ghost use Rattle.std.specs.Prelude.{◌≡◌, ◌∷◌, ◌<◌, None, List, ℕ, length, IfOk, IfErr, IfSome};
+ghost use Rattle.std.specs.Prelude.{◌≡◌, ◌≢◌, [], ◌∷◌, ◌<◌, None, List, ℕ, length};
+ghost use Rattle.std.specs.Prelude.{IfOk, IfErr, OnErr, IfSome};
 ghost use Rattle.stream_option_parsing.specs.Lines.{lines_of, parts_of, pieces, pieces_from, parts_left};
 ghost use Rattle.stream_option_parsing.specs.Split.{arguments};
 
@@ -18,20 +19,22 @@ pub(crate) fn cut_line(bytes: &[u8]) -> (&[u8], &[u8])
     }
 }
 
-/// The type word of a line, and the arguments after it.
+/// The type word of a line, and the arguments after it. Memory is allocated only if there are any.
 pub(crate) fn cut_parts(alloc: Global, line: &[u8]) -> Result<(&[u8], Vec<Vec<u8>>), RunError>
     ensures parts { IfOk result (λ x. parts_of line.now ≡ x.0.now ∷ arguments x.1.items) }
     ensures err { IfErr result (λ e. e ≡ RunError.Memory) }
+    ensures some { OnErr result (parts_of line.now ≢ line.now ∷ []) }
 {
     let (word, rest) = cut_at(b' ', line);
     let args = args_in(alloc, rest)?;
     Ok((word, args))
 }
 
-/// The remaining arguments of a line.
+/// The remaining arguments of a line. Memory is allocated only if there are any.
 fn args_in(alloc: Global, line: Option<&[u8]>) -> Result<Vec<Vec<u8>>, RunError>
     ensures args { IfOk result (λ args. arguments args.items ≡ parts_left line.entry) }
     ensures err { IfErr result (λ e. e ≡ RunError.Memory) }
+    ensures some { OnErr result (parts_left line.entry ≢ []) }
 {
     let mut args = Vec::new(alloc);
     let mut left = line;
