@@ -1,6 +1,7 @@
 //! Reads lines and writes one line for each.
-ghost use Rattle.std.specs.Prelude.{◌≡◌, ◌≢◌, ◌<◌, IfErr, OnOk, IfSome, length};
+ghost use Rattle.std.specs.Prelude.{◌≡◌, ◌≢◌, ◌<◌, [], IfErr, OnOk, IfSome, length, vec_capacity};
 ghost use Rattle.std.specs.Io.KnownBytes.{Keeps, IsAtEnd};
+ghost use Rattle.stream_option_parsing.specs.Answer.{NeedsNoMemory};
 ghost use Rattle.stream_option_parsing.specs.Told.{WroteAnswer, WroteAnswerBeginning};
 
 use crate::answer::append_replies;
@@ -32,8 +33,37 @@ pub fn run<R: Read, W: Write>(alloc: Global, input: &mut R, output: &mut W) -> R
         → IfSome (R.remaining input.old) (λ all.
         WroteAnswerBeginning all (W.contents output.old) (W.contents output.new))) }
 {
-    let bytes = read_all(alloc, input)?;
+    let mut bytes = Vec::new(alloc);
     let mut replies = Vec::new(alloc);
-    append_replies(alloc, &bytes, &mut replies)?;
-    write_whole(output, &replies)
+    run_with(alloc, input, output, &mut bytes, &mut replies)
+}
+
+/// `run`, with an empty list for the input and one for the replies. `Memory` is returned only if the
+/// capacity of a list is too small, or if a line has an argument or a known type.
+fn run_with<R: Read, W: Write>(
+    alloc: Global,
+    input: &mut R,
+    output: &mut W,
+    bytes: &mut Vec<u8>,
+    replies: &mut Vec<u8>,
+) -> Result<(), RunError>
+    requires bytes { bytes.old.items ≡ [] }
+    requires replies { replies.old.items ≡ [] }
+    ensures answered { OnOk result (IfSome (R.remaining input.old) (λ all.
+        WroteAnswer all (W.contents output.old) (W.contents output.new))) }
+    ensures end { OnOk result (IsAtEnd (R.remaining input.new)) }
+    ensures unwritten { IfErr result (λ e. e ≢ RunError.Write
+        → Keeps (W.contents output.old) (W.contents output.new)) }
+    ensures memory { IfErr result (λ e. e ≡ RunError.Memory
+        → IfSome (R.remaining input.old) (λ all. 0 < length all)) }
+    ensures full { IfErr result (λ e. e ≡ RunError.Memory
+        → IfSome (R.remaining input.old) (λ all.
+        NeedsNoMemory all replies.old → vec_capacity bytes.old < length all)) }
+    ensures begun { IfErr result (λ e. e ≡ RunError.Write
+        → IfSome (R.remaining input.old) (λ all.
+        WroteAnswerBeginning all (W.contents output.old) (W.contents output.new))) }
+{
+    read_all(input, bytes)?;
+    append_replies(alloc, bytes.as_slice(), replies)?;
+    write_whole(output, replies.as_slice())
 }
