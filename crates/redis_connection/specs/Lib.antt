@@ -5,3 +5,4 @@ pub mod Seen
 pub mod Passing
 pub mod Ask
 pub mod Wait
+pub mod Usable

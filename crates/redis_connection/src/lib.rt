@@ -12,6 +12,8 @@ mod error;
 mod incoming;
 mod outgoing;
 mod passing;
+mod sink;
+mod source;
 mod wait;
 
 pub use confirming::{ConfirmError, confirm};

@@ -1,23 +1,28 @@
 //! Writes all of the bytes, or after an error only a prefix of them.
-ghost use Rattle.std.specs.Prelude.{ℕ, OnOk, OnErr, take};
+ghost use Rattle.std.specs.Prelude.{◌≢◌, ℕ, IfErr, OnOk, OnErr, take};
+ghost use Rattle.std.specs.IoError.{error_kind};
 ghost use Rattle.std.specs.Io.KnownBytes.{Appends};
 
+use crate::sink::Sink;
 use std::io;
-use std::io::{ErrorKind, Write};
+use std::io::ErrorKind;
 
 /// Writes all of the bytes, however few the writer accepts at once. After an `Err` it has only a
 /// prefix of them.
-fn write_whole<W: Write>(writer: &mut W, bytes: &[u8]) -> io::Result<()>
-    ensures ok { OnOk result (Appends (W.contents writer.old) (W.contents writer.new) bytes.now) }
+fn write_whole<S: Sink>(writer: &mut S, bytes: &[u8]) -> io::Result<()>
+    requires { S.may_write writer.old }
+    ensures ok { OnOk result (Appends (S.contents writer.old) (S.contents writer.new) bytes.now) }
     ensures err { OnErr result ((n : ℕ) ×
-        Appends (W.contents writer.old) (W.contents writer.new) (take n bytes.now)) }
+        Appends (S.contents writer.old) (S.contents writer.new) (take n bytes.now)) }
+    ensures again { OnOk result (S.may_write writer.new) }
+    ensures retried { IfErr result (λ e. error_kind e ≢ ErrorKind.Interrupted) }
 {
     let mut at = 0usize;
     for _turn in 0..u64::MAX {
         if at >= bytes.len() {
             return Ok(());
         }
-        match writer.write(&bytes[at..]) {
+        match writer.write_some(&bytes[at..]) {
             Ok(0) => return Err(io::Error::from(ErrorKind::WriteZero)),
             Ok(len) => at += len,
             Err(error) => {
@@ -31,11 +36,13 @@ fn write_whole<W: Write>(writer: &mut W, bytes: &[u8]) -> io::Result<()>
 }
 
 /// Writes all of the bytes, and flushes the writer.
-pub fn write_out<W: Write>(writer: &mut W, bytes: &[u8]) -> io::Result<()>
-    ensures ok { OnOk result (Appends (W.contents writer.old) (W.contents writer.new) bytes.now) }
+pub fn write_out<S: Sink>(writer: &mut S, bytes: &[u8]) -> io::Result<()>
+    requires { S.may_write writer.old }
+    ensures ok { OnOk result (Appends (S.contents writer.old) (S.contents writer.new) bytes.now) }
     ensures err { OnErr result ((n : ℕ) ×
-        Appends (W.contents writer.old) (W.contents writer.new) (take n bytes.now)) }
+        Appends (S.contents writer.old) (S.contents writer.new) (take n bytes.now)) }
+    ensures flushed { OnOk result (S.is_flushed writer.new) }
 {
     write_whole(writer, bytes)?;
-    writer.flush()
+    writer.flush_all()
 }

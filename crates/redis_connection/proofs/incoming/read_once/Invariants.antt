@@ -2,6 +2,9 @@ use Rattle.std.proofs.Common.{[]}
 use Rattle.std.specs.Io.KnownBytes.{Consumes}
 use Rattle.redis_connection.proofs.incoming.read_once.Given as goal
 
--- nothing was read so far
+-- nothing was read so far, and the reader may be read
 abbrev pub invariant-loop-turn : goal.invariant-loop-turn
-invariant-loop-turn g l = Consumes (g.R.Read.remaining l.fn.reader) (g.R.Read.remaining l.reader) []
+invariant-loop-turn g l = record {
+  read : Consumes (g.S.Source.remaining l.fn.reader) (g.S.Source.remaining l.reader) [];
+  usable : g.S.Source.may_read l.reader;
+}

@@ -13,14 +13,15 @@ returns-in_err-reply-clause-faulty g c =
 
 pub loop-turn-preserved : goal.loop-turn-preserved
 loop-turn-preserved g c =
-    let old = seen 0 None (g.R.Read.remaining c.args.reader.now) c.args.replies.now c.args.piece.now c.args.unfed.now in
+    let old = seen 0 None (g.S.Source.remaining c.args.reader.now) c.args.replies.now c.args.piece.now c.args.unfed.now in
     let n = rw c.in_default.is at c.in_ok-reply.ensures in
     let same =
     waits_same old
-    (g.R.Read.remaining c.loop-turn.reader) c.loop-turn.replies c.loop-turn.piece c.loop-turn.unfed
+    (g.S.Source.remaining c.loop-turn.reader) c.loop-turn.replies c.loop-turn.piece c.loop-turn.unfed
     c.loop-turn.invariant.waits c.next.new.self n.0 in
     record {
       within = c.take_in.ensures.within;
       room = c.take_in.ensures.room;
       waits = waits_on old _ _ same c.take_in.ensures.waits;
+      usable = c.in_ok-take_in.ensures.again;
     }

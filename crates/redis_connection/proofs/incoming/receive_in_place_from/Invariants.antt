@@ -8,6 +8,7 @@ abbrev pub invariant-loop-turn : goal.invariant-loop-turn
 invariant-loop-turn g l = record {
   within : l.unfed ≤ length l.piece;
   room : 0 < length l.piece;
-  waits : Waits (seen 0 None (g.R.Read.remaining l.fn.reader) l.fn.replies l.fn.piece l.fn.unfed)
-      (seen 0 None (g.R.Read.remaining l.reader) l.replies l.piece l.unfed);
+  waits : Waits (seen 0 None (g.S.Source.remaining l.fn.reader) l.fn.replies l.fn.piece l.fn.unfed)
+      (seen 0 None (g.S.Source.remaining l.reader) l.replies l.piece l.unfed);
+  usable : g.S.Source.may_read l.reader;
 }
