@@ -1,5 +1,6 @@
 -- Lemmas on the bytes sent and received.
 pub mod WayLemmas
 pub mod LinkLemmas
+pub mod ReaderLemmas
 pub mod AskLemmas
 pub mod PassingLemmas

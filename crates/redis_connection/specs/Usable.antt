@@ -1,8 +1,8 @@
 -- When a reader or a writer may be used again, and what an error says of it.
-use Rattle.std.specs.Prelude.{◌≡◌, ℕ, zero, suc, Result, Ok, Err}
+use Rattle.std.specs.Prelude.{◌≡◌, ◌≢◌, ℕ, zero, suc, Result, Ok, Err}
 use Rattle.std.specs.IoError.{error_kind}
 use Rattle.std.specs.declared.io.Error.{Error}
-use Rattle.std.specs.declared.io.ErrorKind.TheVariants.{Interrupted}
+use Rattle.std.specs.declared.io.ErrorKind.TheVariants.{Interrupted, TimedOut, WriteZero}
 use Rattle.redis_connection.specs.declared.error.ConnectionError.{ConnectionError}
 use Rattle.redis_connection.specs.declared.error.ConnectionError.TheVariants as errors
 
@@ -17,8 +17,17 @@ abbrev pub MayWriteAfter : Result ℕ Error → Type 0 → Type 0
 MayWriteAfter (Ok n) may_write = may_write
 MayWriteAfter (Err e) may_write = error_kind e ≡ Interrupted → may_write
 
--- an error other than `Read` and `Closed` leaves a reader that may be read
-abbrev pub SparesReader : Type 0 → ConnectionError → Type 0
-SparesReader may_read (errors.Read e) = Unit {0}
-SparesReader may_read errors.Closed = Unit {0}
-SparesReader may_read e = may_read
+-- the error of the last read; `TimedOut` is also the error after 2^64 - 1 interrupted reads
+abbrev pub IsReadError : (Error → Type 0) → Error → Type 0
+IsReadError failed_with e = error_kind e ≢ TimedOut → failed_with e
+
+-- the error of the last call; `TimedOut` is also the error after 2^64 - 1 interrupted writes, and `WriteZero`
+-- after a write of no bytes
+abbrev pub IsWriteError : (Error → Type 0) → Error → Type 0
+IsWriteError failed_with e = error_kind e ≢ TimedOut → error_kind e ≢ WriteZero → failed_with e
+
+-- `Read` has the error of the last read; an error other than `Read` and `Closed` leaves a reader that may be read
+abbrev pub IsOfReader : Type 0 → (Error → Type 0) → ConnectionError → Type 0
+IsOfReader may_read failed_with (errors.Read e) = IsReadError failed_with e
+IsOfReader may_read failed_with errors.Closed = Unit {0}
+IsOfReader may_read failed_with e = may_read

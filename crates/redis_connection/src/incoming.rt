@@ -8,7 +8,7 @@ ghost use Rattle.redis_wire.specs.Decoded.{NoReply};
 ghost use Rattle.redis_connection.specs.Cause.{read_failure_of};
 ghost use Rattle.redis_connection.specs.Link.{IsEnded, IsFaulty, IsInPlace, IsRetried, Receives, Waits};
 ghost use Rattle.redis_connection.specs.Seen.{seen};
-ghost use Rattle.redis_connection.specs.Usable.{SparesReader};
+ghost use Rattle.redis_connection.specs.Usable.{IsOfReader, IsReadError};
 
 use crate::error::ConnectionError;
 use crate::source::Source;
@@ -24,6 +24,7 @@ fn read_once<S: Source>(reader: &mut S, piece: &mut [u8]) -> io::Result<usize>
     ensures bytes { ReadConsumes (S.remaining reader.old) (S.remaining reader.new) result piece.new }
     ensures retried { IfErr result (λ e. error_kind e ≢ ErrorKind.Interrupted) }
     ensures again { IfOk result (λ n. 0 < n → S.may_read reader.new) }
+    ensures failed { IfErr result (IsReadError (S.failed_with reader.new)) }
 {
     for _turn in 0..u64::MAX {
         match reader.read_some(piece) {
@@ -72,7 +73,8 @@ fn take_in<S: Source>(
         (IsFaulty (seen 0 None (S.remaining reader.new) replies.new piece.new unfed.new).held) }
     ensures retried { IfErr result IsRetried }
     ensures again { OnOk result (S.may_read reader.new) }
-    ensures spared { IfErr result (SparesReader (S.may_read reader.new)) }
+    ensures of_reader { IfErr result
+        (IsOfReader (S.may_read reader.new) (S.failed_with reader.new)) }
 {
     if *unfed == 0 {
         *unfed = read_len(read_once(reader, piece))?;
@@ -106,7 +108,8 @@ pub fn receive_from<S: Source>(
     ensures faulty { IfErr result
         (IsFaulty (seen 0 None (S.remaining reader.new) replies.new piece.new unfed.new).held) }
     ensures retried { IfErr result IsRetried }
-    ensures spared { IfErr result (SparesReader (S.may_read reader.new)) }
+    ensures of_reader { IfErr result
+        (IsOfReader (S.may_read reader.new) (S.failed_with reader.new)) }
 {
     for _turn in 0..u64::MAX {
         if let Some(reply) = replies.next(alloc)? {
@@ -140,7 +143,8 @@ pub fn receive_in_place_from<S: Source>(
     ensures faulty { IfErr result
         (IsFaulty (seen 0 None (S.remaining reader.new) replies.new piece.new unfed.new).held) }
     ensures retried { IfErr result IsRetried }
-    ensures spared { IfErr result (SparesReader (S.may_read reader.new)) }
+    ensures of_reader { IfErr result
+        (IsOfReader (S.may_read reader.new) (S.failed_with reader.new)) }
 {
     for _turn in 0..u64::MAX {
         if let Some(len) = replies.next_in_place(alloc)? {

@@ -2,6 +2,7 @@
 ghost use Rattle.std.specs.Prelude.{◌≢◌, ℕ, IfErr, OnOk, OnErr, take};
 ghost use Rattle.std.specs.IoError.{error_kind};
 ghost use Rattle.std.specs.Io.KnownBytes.{Appends};
+ghost use Rattle.redis_connection.specs.Usable.{IsWriteError};
 
 use crate::sink::Sink;
 use std::io;
@@ -15,6 +16,7 @@ fn write_whole<S: Sink>(writer: &mut S, bytes: &[u8]) -> io::Result<()>
     ensures err { OnErr result ((n : ℕ) ×
         Appends (S.contents writer.old) (S.contents writer.new) (take n bytes.now)) }
     ensures again { OnOk result (S.may_write writer.new) }
+    ensures failed { IfErr result (IsWriteError (S.failed_with writer.new)) }
     ensures retried { IfErr result (λ e. error_kind e ≢ ErrorKind.Interrupted) }
 {
     let mut at = 0usize;
@@ -41,6 +43,7 @@ pub fn write_out<S: Sink>(writer: &mut S, bytes: &[u8]) -> io::Result<()>
     ensures ok { OnOk result (Appends (S.contents writer.old) (S.contents writer.new) bytes.now) }
     ensures err { OnErr result ((n : ℕ) ×
         Appends (S.contents writer.old) (S.contents writer.new) (take n bytes.now)) }
+    ensures failed { IfErr result (IsWriteError (S.failed_with writer.new)) }
     ensures flushed { OnOk result (S.is_flushed writer.new) }
 {
     write_whole(writer, bytes)?;
