@@ -28,6 +28,7 @@ mod ReadModelLemmas
 mod ReadGroupLemmas
 mod ReadOneLemmas
 mod ReadStepLemmas
+mod RemovingLemmas
 mod NameLemmas
 mod RereadLemmas
 mod RereadLawLemmas

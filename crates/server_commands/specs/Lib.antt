@@ -23,6 +23,7 @@ pub mod ReadGroup
 pub mod Reading
 pub mod ReadingOne
 pub mod Refusal
+pub mod Removing
 pub mod Rereading
 pub mod Sent
 pub mod Server

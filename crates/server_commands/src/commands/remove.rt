@@ -3,6 +3,7 @@ ghost use Rattle.std.specs.Prelude.{◌≡◌, ◌≤◌, ◌-◌, drop, length,
 ghost use Rattle.server_commands.specs.Acknowledging.{AcknowledgesIn, AreAcknowledged};
 ghost use Rattle.server_commands.specs.Deleting.{AreDeleted, DeletesIn};
 ghost use Rattle.server_commands.specs.IdWords.{IsRefusedFor};
+ghost use Rattle.server_commands.specs.Removing.{AreRemoved, IsWithout};
 
 use super::id_words::{id, ids};
 use super::places::{place_of, place_of_group};
@@ -16,15 +17,23 @@ use std::alloc::Global;
 
 /// `DEL key ..`: how many of the streams were there.
 pub(super) fn remove_keys(streams: &mut Vec<Stream>, keys: &[Vec<u8>]) -> usize
-    ensures { result ≡ vec_len streams.old - vec_len streams.new }
+    ensures count { result ≡ vec_len streams.old - vec_len streams.new }
+    ensures removed { AreRemoved keys.now result streams.old.items streams.new.items }
 {
     let before = streams.len();
     for key in keys {
-        if let Ok(index) = place_of(streams, key) {
-            let _stream = streams.remove(index);
-        }
+        remove_key(streams, key);
     }
     before.saturating_sub(streams.len())
+}
+
+/// Removes the stream of this key, if there is one.
+fn remove_key(streams: &mut Vec<Stream>, key: &[u8])
+    ensures { IsWithout key.now streams.old.items streams.new.items }
+{
+    if let Ok(index) = place_of(streams, key) {
+        let _stream = streams.remove(index);
+    }
 }
 
 /// `XDEL key id ..`
