@@ -32,5 +32,6 @@ pub mod Session
 pub mod Shown
 pub mod Stalled
 pub mod Stepping
+pub mod Steps
 pub mod Streams
 pub mod Watching

@@ -1,7 +1,8 @@
 -- What a connection shows.
-use Rattle.std.specs.Prelude.{ℕ, Bool, false, List, []}
+use Rattle.std.specs.Prelude.{ℕ, Bool, false, List, [], ◌∷◌, ◌++◌}
 use Rattle.std.specs.Global.{Vec}
 use Rattle.redis_wire.specs.declared.written.Protocol.{Protocol}
+use Rattle.server_commands.specs.declared.commands.Plain.{Plain}
 use Rattle.server_commands.specs.declared.session.Mode.{Mode}
 use Rattle.server_commands.specs.declared.session.Mode.TheVariants.{AtOnce}
 use Rattle.server_commands.specs.declared.session.Queued.{Queued}
@@ -42,3 +43,7 @@ new_session protocol = record {
 -- its queue and what it watches are dropped, and its commands are done as they come
 abbrev pub forgotten : SeenSession → SeenSession
 forgotten s = record s { mode = AtOnce; queue = []; watched = []; is_touched = false }
+
+-- a command waits after those that wait
+abbrev pub with_queued : Plain → Vec (Vec ℕ) → SeenSession → SeenSession
+with_queued command words s = record s { queue = s.queue ++ record { command = command; words = words } ∷ [] }

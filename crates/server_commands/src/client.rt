@@ -2,7 +2,8 @@
 ghost use Rattle.std.specs.Prelude.{◌≡◌, ◌++◌, ◌+◌, ◌*◌, ◌<◌, ◌≤◌, [], true, false, IsTrue, IfOk, OnOk, OnErr, map, max, option_map, vec_capacity, vec_len};
 ghost use Rattle.redis_wire.specs.declared.written.Protocol.TheVariants.{Resp2};
 ghost use Rattle.server_commands.specs.Incoming.{Gives, command_at, protocol_error_bytes};
-ghost use Rattle.server_commands.specs.Serving.{Turn, IsAnswered, turn_bytes, Serves, GivesUp, Leaves, Answers};
+ghost use Rattle.server_commands.specs.Serving.{Turn, IsAnswered, turn_bytes, MayStep, Serves, GivesUp, Leaves, Answers, state_of};
+ghost use Rattle.server_commands.specs.Session.{new_session};
 
 use crate::incoming::{Scan, Stop, command_at, is_short, push_protocol_error};
 use crate::writing::append_reply;
@@ -13,8 +14,8 @@ use std::marker::Model;
 
 /// What a server knows of a client and its connection.
 ///
-/// A contract sees the bytes of an incomplete command, and whether the connection has ended. What was parsed is
-/// not parsed again, so small pieces cost no more than large ones.
+/// A contract sees the bytes of an incomplete command, whether the connection has ended, and its session. What was
+/// parsed is not parsed again, so small pieces cost no more than large ones.
 #[derive(Drop)]
 pub struct Client {
     session: Session,
@@ -30,7 +31,7 @@ impl Model for Client {
 
     ghost Value = { Standing };
 
-    ghost view = { λ c. record { unread = c.unread.items; has_ended = c.has_ended } };
+    ghost view = { λ c. record { unread = c.unread.items; has_ended = c.has_ended; session = c.session } };
 
     ghost invariant = { λ c. IsScan c.scan c.unread.items };
 }
@@ -38,7 +39,7 @@ impl Model for Client {
 impl Client {
     /// A client that has sent nothing yet, and speaks RESP2.
     pub fn new(alloc: Global) -> Client
-        ensures { result ≡ record { unread = []; has_ended = false } }
+        ensures { result ≡ record { unread = []; has_ended = false; session = new_session Resp2 } }
     {
         Client {
             session: Session::new(alloc, Protocol::Resp2),
@@ -63,9 +64,10 @@ impl Client {
         answers: &mut Vec<u8>,
     ) -> Result<(), AllocError>
         ensures ok { OnOk result
-            (Answers self.old self.new bytes.now answers.old.items answers.new.items) }
+            (Answers self.old self.new server.old server.new bytes.now answers.old.items answers.new.items) }
         ensures err { OnErr result
-            (GivesUp (self.old.unread ++ bytes.now) answers.old.items answers.new.items) }
+            (GivesUp (self.old.unread ++ bytes.now) answers.old.items answers.new.items
+            (state_of server.old self.old) (state_of server.new self.new)) }
         ensures ended { OnErr result (self.new.has_ended ≡ true) }
     {
         if self.has_ended {
@@ -94,8 +96,10 @@ impl Client {
     ) -> Result<(), AllocError>
         requires { self.old.has_ended ≡ true }
         ensures ok { OnOk result
-            (Leaves self.new self.old.unread answers.old.items answers.new.items) }
-        ensures err { OnErr result (GivesUp self.old.unread answers.old.items answers.new.items) }
+            (Leaves self.new self.old.unread answers.old.items answers.new.items
+            (state_of server.old self.old) (state_of server.new self.new)) }
+        ensures err { OnErr result (GivesUp self.old.unread answers.old.items answers.new.items
+            (state_of server.old self.old) (state_of server.new self.new)) }
         ensures ended { OnErr result (self.new.has_ended ≡ true) }
     {
         match first_of(alloc, &self.unread) {
@@ -125,8 +129,10 @@ impl Client {
     ) -> Result<(), AllocError>
         requires ended { self.old.has_ended ≡ true }
         requires none { self.old.unread ≡ [] }
-        ensures ok { OnOk result (Leaves self.new bytes.now answers.old.items answers.new.items) }
-        ensures err { OnErr result (GivesUp bytes.now answers.old.items answers.new.items) }
+        ensures ok { OnOk result (Leaves self.new bytes.now answers.old.items answers.new.items
+            (state_of server.old self.old) (state_of server.new self.new)) }
+        ensures err { OnErr result (GivesUp bytes.now answers.old.items answers.new.items
+            (state_of server.old self.old) (state_of server.new self.new)) }
         ensures ended { OnErr result (self.new.has_ended ≡ true) }
     {
         let rest = answer_all(alloc, server, &mut self.session, now, bytes, answers)?;
@@ -157,8 +163,11 @@ fn answer_all<'a>(
     answers: &mut Vec<u8>,
 ) -> Result<Option<&'a [u8]>, AllocError>
     ensures ok { IfOk result (λ rest. Serves bytes.now answers.old.items answers.new.items
-        (option_map (λ r. r.now) rest)) }
-    ensures err { OnErr result (GivesUp bytes.now answers.old.items answers.new.items) }
+        (option_map (λ r. r.now) rest) (record { streams = server.old; session = session.old })
+        (record { streams = server.new; session = session.new })) }
+    ensures err { OnErr result (GivesUp bytes.now answers.old.items answers.new.items
+        (record { streams = server.old; session = session.old })
+        (record { streams = server.new; session = session.new })) }
 {
     let mut rest = bytes;
     'commands: loop {
@@ -232,8 +241,13 @@ fn answer_one(
     answers: &mut Vec<u8>,
 ) -> Result<(), AllocError>
     ensures ok { OnOk result ((turn : Turn) × IsAnswered (map (λ w. w.items) words.items) turn
+        (record { streams = server.old; session = session.old })
+        (record { streams = server.new; session = session.new })
         × (answers.new.items ≡ answers.old.items ++ turn_bytes turn)) }
     ensures err { OnErr result (answers.new.items ≡ answers.old.items) }
+    ensures stepped { OnErr result (MayStep (map (λ w. w.items) words.items)
+        (record { streams = server.old; session = session.old })
+        (record { streams = server.new; session = session.new })) }
 {
     if words.is_empty() {
         return Ok(());

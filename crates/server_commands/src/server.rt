@@ -2,6 +2,7 @@
 ghost use Rattle.std.specs.Prelude.{◌≡◌, [], IfOk, OnErr};
 ghost use Rattle.server_commands.specs.Server.{IsRefused};
 ghost use Rattle.server_commands.specs.Stepping.{XackSteps, XaddSteps, XautoclaimSteps, XdelSteps, XreadgroupSteps};
+ghost use Rattle.server_commands.specs.Steps.{WaitsForExec};
 ghost use Rattle.server_commands.specs.declared.session.Mode.TheVariants.{AtOnce};
 
 use crate::answer::Reply;
@@ -62,6 +63,8 @@ impl Server {
             → XautoclaimSteps command.items r self.old self.new) }
         ensures xreadgroup { IfOk result (λ r. session.old.mode ≡ AtOnce
             → XreadgroupSteps command.items r self.old self.new) }
+        ensures queued { IfOk result (λ r. WaitsForExec command r (record { streams = self.old; session = session.old })
+            (record { streams = self.new; session = session.new })) }
     {
         transaction::answered(alloc, &mut self.streams, now, session, command)
     }

@@ -1,13 +1,14 @@
 //! Transactions: `MULTI`, `EXEC`, `DISCARD`, `WATCH`.
-ghost use Rattle.std.specs.Prelude.{◌≡◌, ◌≢◌, ◌<◌, ℕ, length, true, IfOk, OnErr, Ok};
+ghost use Rattle.std.specs.Prelude.{◌≡◌, ◌≢◌, ◌<◌, ℕ, length, true, IfOk, OnOk, OnErr, Ok};
 ghost use Rattle.std.specs.Global.{Vec};
 ghost use Rattle.server_commands.specs.Commands.{IsNamed, PlainReplies, Replies, least_of};
-ghost use Rattle.server_commands.specs.Server.{IsRefused};
-ghost use Rattle.server_commands.specs.Session.{forgotten};
+ghost use Rattle.server_commands.specs.Server.{IsRefused, queued_reply};
+ghost use Rattle.server_commands.specs.Session.{forgotten, with_queued};
 ghost use Rattle.server_commands.specs.Streams.{seen_streams};
 ghost use Rattle.server_commands.specs.Watching.{is_touched};
 ghost use Rattle.server_commands.specs.declared.answer.Answer.TheVariants.{NilArray};
 ghost use Rattle.server_commands.specs.declared.commands.Change.{Change};
+ghost use Rattle.server_commands.specs.declared.commands.Plain.TheVariants as plain;
 ghost use Rattle.server_commands.specs.declared.answer.Reply.TheVariants.{Done, Refused};
 ghost use Rattle.server_commands.specs.declared.refusal.Refusal.TheVariants.{Memory};
 ghost use Rattle.server_commands.specs.declared.session.Mode.TheVariants.{AtOnce, Queued as IsQueued};
@@ -55,6 +56,10 @@ pub(crate) fn answered(
     ensures session { OnErr result (session.new ≡ session.old) }
     ensures refused { IfOk result (λ r. IsRefused r
         → seen_streams streams.new ≡ seen_streams streams.old) }
+    ensures queued { IfOk result (λ r. session.old.mode ≡ IsQueued → (change : Change) → IsNamed change words.items
+        → least_of change < length words.items → (r ≡ queued_reply)
+        × (session.new ≡ with_queued (plain.Change change) words session.old)
+        × (seen_streams streams.new ≡ seen_streams streams.old)) }
 {
     match commands::command_in(alloc, &words) {
         Ok(Command::Transaction(step)) => execute_step(alloc, streams, now, session, step, &words),
@@ -92,7 +97,10 @@ fn execute_now(
 
 /// Queues a command; after an error in the transaction it is not kept.
 fn queued(session: &mut Session, command: Plain, words: Vec<Vec<u8>>) -> Result<Reply, AllocError>
-    ensures { OnErr result (session.new ≡ session.old) }
+    ensures err { OnErr result (session.new ≡ session.old) }
+    ensures reply { IfOk result (λ r. r ≡ queued_reply) }
+    ensures kept { OnOk result (session.old.mode ≡ IsQueued → session.new ≡ with_queued command words session.old) }
+    ensures none { session.old.mode ≢ IsQueued → session.new ≡ session.old }
 {
     if session.mode == Mode::Queued {
         session.queue.push(Queued { command, words })?;

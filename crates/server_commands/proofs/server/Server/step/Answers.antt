@@ -2,6 +2,7 @@ use Rattle.std.proofs.Common.{◌≡◌, List, subst}
 use Rattle.std.specs.Prelude.{IfOk}
 use Rattle.server_store.specs.Stream.{Seen}
 use Rattle.server_commands.specs.Stepping.{XackSteps, XaddSteps, XautoclaimSteps, XdelSteps, XreadgroupSteps}
+use Rattle.server_commands.specs.Steps.{WaitsForExec}
 use Rattle.server_commands.specs.Streams.{seen_streams}
 use Rattle.server_commands.specs.declared.session.Mode.TheVariants.{AtOnce}
 use Rattle.server_commands.proofs.ReadStepLemmas.{xreadgroup_steps}
@@ -42,3 +43,10 @@ returns-clause-xreadgroup c =
     → XreadgroupSteps c.args.command.items r old (seen_streams c.answered.new.streams))) c.self.view_is
     (ok_so c.answered.result _ _ c.answered.ensures.done
     (λ r done at. xreadgroup_steps c.args.now c.self.inside.streams.items c.answered.new.streams.items c.args.command.items r (done at)))
+
+pub returns-clause-queued : goal.returns-clause-queued
+returns-clause-queued c =
+    subst (λ (old : List Seen). IfOk c.answered.result (λ r. WaitsForExec c.args.command r
+    (record { streams = old; session = c.args.session.now })
+    (record { streams = seen_streams c.answered.new.streams; session = c.answered.new.session })))
+    c.self.view_is c.answered.ensures.queued
