@@ -1,6 +1,7 @@
 -- Lemmas on the rounds of a session.
 use Rattle.std.proofs.Common.{◌≡◌, ◌+◌, ◌<◌, ℕ, zero, suc, true, false, List, [], ◌∷◌, ◌++◌, length, Option, Some}
 use Rattle.std.proofs.Common.{arith, refl, sym, ◌∙◌, ap, subst, append_assoc, append-nil}
+use Rattle.std.proofs.Common.{Result, Ok, Err, IfErr, IfOk, OnErr}
 use Rattle.std.specs.Prelude.{codes, if◌then◌else◌}
 use Rattle.std.proofs.KnownBytes.{Appends-nil, Appends-trans, Consumes-nil, Consumes-trans}
 use Rattle.std.specs.Io.KnownBytes.{Appends, Consumes}
@@ -9,20 +10,25 @@ use Rattle.redis_wire.specs.Next.{Held}
 use Rattle.redis_wire.specs.Packed.{command_bytes}
 use Rattle.redis_wire.specs.Reply as wire
 use Rattle.redis_wire.specs.declared.limits.Limits.{Limits}
+use Rattle.redis_wire.specs.declared.reply.Reply.{Reply}
 use Rattle.redis_connection.specs.Ask.{Exchanges}
-use Rattle.redis_connection.specs.Link.{Link}
-use Rattle.redis_connection.specs.Passing.{Passes}
+use Rattle.redis_connection.specs.Link.{Link, IsEnded, IsFaulty}
+use Rattle.redis_connection.specs.Passing.{AwaitsAnswer, Passes, ReceivesAnswer}
+use Rattle.redis_connection.specs.declared.error.ConnectionError.{ConnectionError}
 use Rattle.model_server.specs.Group.Worker.{Verdict, Machine, own, after_commit}
 use Rattle.stream_in_place.specs.Sent.{Pairs}
 use Rattle.worker.specs.Answers.{Heard, told, no_group, group_made, hears, group_after}
 use Rattle.worker.specs.Answered.{Went, GoesBy}
+use Rattle.worker.specs.Errors.{received_for}
 use Rattle.worker.specs.Gathered.{Doings}
 use Rattle.worker.specs.Machine.{commits, at_request, machine_of}
 use Rattle.worker.specs.Questions.{sentence}
 use Rattle.worker.specs.Session.{Standing, Turn, answers_of, AreMessages, IsAnswerText, AreReplies, Converses, command, asking}
+use Rattle.worker.specs.Session.{HasAsked, IsAsked}
 use Rattle.worker.specs.Session.{having_heard, EndsBy, ends_before, after_turn, after_turns, bytes_asked, Ends}
 use Rattle.worker.specs.Session.{Rounds, Turned, Ran, IsUnanswered, Breaks, Fails, Broke, FailuresBeginAgain}
 use Rattle.worker.specs.Session.{IsUnsent, FailsUnanswered, after_failure, machine_after, standing_of}
+use Rattle.worker.specs.Taken.{Awaited}
 use Rattle.worker.specs.declared.error.RunError.{RunError}
 use Rattle.worker.specs.declared.error.RunError.TheVariants as causes
 use Rattle.worker.specs.declared.state.Asked.{Asked}
@@ -345,3 +351,40 @@ pub failures_begin_again : FailuresBeginAgain
 failures_begin_again settings old new w x e f sent =
     ap (λ p. sentence settings x.group p (at_request x.machine).to_acknowledge)
     (phase_kept x.machine ∙ ap (λ (v : Standing Doings). v.machine.phase) f.2 ∙ begun_again e f.0.machine sent)
+
+-- ---- what a receive returns, with the command in its error
+
+pub received_ok : {A : Type 0} (P : A → Type 0) (question : Asked) (r : Result A ConnectionError) (s : Result A RunError)
+    → s ≡ received_for question r → IfOk r P → IfOk s P
+received_ok P question (Ok a) s is h = rw is h
+received_ok P question (Err e) s is h = rw is tt
+
+pub not_received : {A : Type 0} (question : Asked) (old new : Link) (r : Result A ConnectionError) (s : Result A RunError)
+    → s ≡ received_for question r → OnErr r (AwaitsAnswer old new) → IfErr r (IsEnded new)
+    → IfErr r (IsFaulty new.held) → IfErr s (Awaited question old new)
+not_received question old new (Ok a) s is awaits ended faulty = rw is tt
+not_received question old new (Err e) s is awaits ended faulty = rw is (awaits, ended, faulty, refl)
+
+module _ {R : Type 0} (with_commit : R → R) (settings : Settings) where
+  pub was_asked : (old m new : Link) (w x : Standing R) (question : Asked) (r : Result Reply ConnectionError)
+      (s : Result Reply RunError) → HasAsked with_commit settings old m w x → s ≡ received_for question r
+      → IfOk r (λ reply. ReceivesAnswer m new (wire.answer reply))
+      → IfOk s (λ reply. IsAsked with_commit settings old new w x (wire.answer reply))
+  was_asked old m new w x question (Ok reply) s asked is h =
+      rw is (asked.0, record { between = m; sends = asked.1; receives = h })
+  was_asked old m new w x question (Err e) s asked is h = rw is tt
+
+  unanswered_by : (old m new : Link) (w x : Standing R) (question : Asked) (e : RunError)
+      → HasAsked with_commit settings old m w x → question ≡ x.asked → Awaited question m new e
+      → IsUnanswered with_commit settings old new w x e
+  unanswered_by old m new w x question (causes.Receive named e) asked is h =
+      (asked.0, (m, asked.1, h.0), h.1, h.2, h.3 ∙ is)
+  unanswered_by old m new w x question (causes.Request e) asked is h = absurd h
+  unanswered_by old m new w x question (causes.Send e) asked is h = absurd h
+  unanswered_by old m new w x question (causes.Answer e) asked is h = absurd h
+
+  pub unanswered : {A : Type 0} (old m new : Link) (w x : Standing R) (question : Asked) (s : Result A RunError)
+      → HasAsked with_commit settings old m w x → question ≡ x.asked → IfErr s (Awaited question m new)
+      → IfErr s (IsUnanswered with_commit settings old new w x)
+  unanswered old m new w x question (Ok a) asked is h = tt
+  unanswered old m new w x question (Err e) asked is h = unanswered_by old m new w x question e asked is h

@@ -11,3 +11,9 @@ abbrev pub Unasked : {R : Type 0} → (R → R) → Machine → Machine → R �
 Unasked with_commit m n r s NotCommitted = (commits m ≡ true) × (n ≡ m) × (s ≡ r)
 Unasked with_commit m n r s TooLong = (n ≡ at_request m) × (s ≡ history_at_request with_commit m r)
 Unasked with_commit m n r s Memory = (n ≡ at_request m) × (s ≡ history_at_request with_commit m r)
+
+-- this holds, if the error is that the handler did not commit
+abbrev pub OnNotCommitted : RequestError → Type 0 → Type 0
+OnNotCommitted NotCommitted p = p
+OnNotCommitted TooLong p = Unit {0}
+OnNotCommitted Memory p = Unit {0}

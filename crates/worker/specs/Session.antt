@@ -18,7 +18,7 @@ use Rattle.worker.specs.Gathered.{Doings, done_too, committed_too}
 use Rattle.worker.specs.Handling.{with_all}
 use Rattle.worker.specs.Machine.{machine_of, at_request, history_at_request, ending_of}
 use Rattle.worker.specs.Questions.{asks, sentence}
-use Rattle.worker.specs.Requested.{Unasked}
+use Rattle.worker.specs.Requested.{OnNotCommitted, Unasked}
 use Rattle.worker.specs.declared.error.RunError.{RunError}
 use Rattle.worker.specs.declared.error.RunError.TheVariants as causes
 use Rattle.worker.specs.declared.state.Asked.{Asked}
@@ -96,6 +96,13 @@ pub record Converses (old new : Link) (out : List ℕ) (came : List wire.Answer)
 abbrev pub command : {R : Type 0} → Settings → Standing R → List (List ℕ)
 command settings w =
     sentence settings w.group (at_request w.machine).phase (at_request w.machine).to_acknowledge
+
+-- this holds, if the error is that the handler did not commit
+abbrev pub OnCommitFailed : RunError → Type 0 → Type 0
+OnCommitFailed (causes.Request e) p = OnNotCommitted e p
+OnCommitFailed (causes.Send e) p = Unit {0}
+OnCommitFailed (causes.Receive named e) p = Unit {0}
+OnCommitFailed (causes.Answer e) p = Unit {0}
 
 -- the error is that a command was not sent, since it was not written
 abbrev pub IsUnsent : RunError → Type 0

@@ -1,5 +1,5 @@
 //! The handler of a worker's entries.
-ghost use Rattle.std.specs.Prelude.{◌≡◌, ℕ, List, OnErr, OnOk};
+ghost use Rattle.std.specs.Prelude.{◌≡◌, ℕ, IsErr, List, OnErr, OnOk};
 ghost use Rattle.model_server.specs.Group.Worker as machine;
 ghost use Rattle.stream_in_place.specs.Sent.{Pairs};
 ghost use Rattle.worker.specs.Handling.{pair_of, verdict_of};
@@ -40,6 +40,9 @@ pub trait Handler {
     /// The history so far.
     ghost history: { Self → History };
 
+    /// What is known of a commit that failed: of the handler before it, and after it.
+    ghost commit_failed: { Self → Self → Type 0 } = { λ _ _. Unit {0} };
+
     /// Handles an entry: its id and its fields in order, as the server sent them.
     fn handle(&mut self, alloc: Global, entry: &EntryRef<'_>) -> Verdict
         ensures { history self.new ≡ with_verdict (history self.old)
@@ -49,5 +52,6 @@ pub trait Handler {
     /// acknowledgement, once for a batch of entries. An entry that is not committed is not acknowledged.
     fn commit(&mut self, alloc: Global) -> Result<(), NotCommitted>
         ensures ok { OnOk result (history self.new ≡ with_commit (history self.old)) }
-        ensures err { OnErr result (history self.new ≡ history self.old) };
+        ensures err { OnErr result (history self.new ≡ history self.old) }
+        ensures failed { IsErr result → commit_failed self.old self.new };
 }

@@ -6,7 +6,7 @@ ghost use Rattle.worker.specs.Session.{standing_of};
 
 use crate::error::RunError;
 use crate::handler::Handler;
-use crate::session::Round;
+use crate::session::{Round, name_command};
 use crate::state::Asked;
 use crate::worker::Worker;
 use redis_connection::Connection;
@@ -151,9 +151,9 @@ fn discard_next<R: Read + Drop, W: Write + Drop>(
     ensures names { NamesNext next error result }
 {
     match error {
-        RunError::Answer(error) => match connection.receive(alloc) {
+        RunError::Answer(error) => match name_command(next, connection.receive(alloc)) {
             Ok(_) => RunError::Answer(error),
-            Err(error) => RunError::Receive { asked: next, error },
+            Err(error) => error,
         },
         error => error,
     }

@@ -1,10 +1,11 @@
 //! A worker over a connection.
 ghost use Rattle.std.specs.Prelude.{◌≡◌, IfErr, IfOk, OnOk};
 ghost use Rattle.redis_wire.specs.Reply.{answer};
+ghost use Rattle.worker.specs.Errors.{received_for};
 ghost use Rattle.worker.specs.Machine.{machine_of};
 ghost use Rattle.redis_connection.specs.Passing.{IsAnswerInPlace};
 ghost use Rattle.worker.specs.Session.{Breaks, Broke, Fails, FailsUnanswered, HasAsked, IsAsked, IsUnanswered};
-ghost use Rattle.worker.specs.Session.{Ran, Turned, machine_after, standing_of};
+ghost use Rattle.worker.specs.Session.{OnCommitFailed, Ran, Turned, machine_after, standing_of};
 ghost use Rattle.worker.specs.Finish.{FinishBroke, Finished, Settles, SettlesNot};
 ghost use Rattle.worker.specs.Taken.{Awaited, Takes, TakesNot};
 
@@ -40,6 +41,7 @@ impl Worker {
         ensures err { IfErr result (IsUnanswered H.with_commit self.old.settings connection.old
             connection.new (standing_of self.old (H.history handler.old))
             (standing_of self.new (H.history handler.new))) }
+        ensures failed { IfErr result (λ e. OnCommitFailed e (H.commit_failed handler.old handler.new)) }
         ensures settings { self.new.settings ≡ self.old.settings }
     {
         let mut question = Vec::new(alloc);
@@ -63,16 +65,11 @@ impl Worker {
         ensures err { IfErr result (IsUnanswered H.with_commit self.old.settings connection.old
             connection.new (standing_of self.old (H.history handler.old))
             (standing_of self.new (H.history handler.new))) }
+        ensures failed { IfErr result (λ e. OnCommitFailed e (H.commit_failed handler.old handler.new)) }
         ensures settings { self.new.settings ≡ self.old.settings }
     {
         self.send_next(alloc, connection, handler)?;
-        match connection.receive(alloc) {
-            Ok(reply) => Ok(reply),
-            Err(error) => Err(RunError::Receive {
-                asked: self.asked(),
-                error,
-            }),
-        }
+        name_command(self.asked(), connection.receive(alloc))
     }
 
     /// Requests the next command, sends it, and receives its reply, for `answered`. An `Err` is never `Answer`, and
@@ -89,6 +86,7 @@ impl Worker {
         ensures err { IfErr result (FailsUnanswered H.with_commit self.old.settings connection.old
             connection.new (standing_of self.old (H.history handler.old))
             (standing_of self.new (H.history handler.new))) }
+        ensures failed { IfErr result (λ e. OnCommitFailed e (H.commit_failed handler.old handler.new)) }
         ensures settings { self.new.settings ≡ self.old.settings }
     {
         match self.try_ask(alloc, connection, handler) {
@@ -278,8 +276,18 @@ fn received_len<R: Read + Drop, W: Write + Drop>(
     ensures ok { IfOk result (IsAnswerInPlace connection.old connection.new) }
     ensures err { IfErr result (Awaited asked connection.old connection.new) }
 {
-    match connection.receive_in_place(alloc) {
-        Ok(len) => Ok(len),
+    name_command(asked, connection.receive_in_place(alloc))
+}
+
+/// Returns what was received. An error of the connection stays the same, and names the command.
+pub(crate) fn name_command<T: Drop>(
+    asked: Asked,
+    received: Result<T, ConnectionError>,
+) -> Result<T, RunError>
+    ensures { result ≡ received_for asked received }
+{
+    match received {
+        Ok(taken) => Ok(taken),
         Err(error) => Err(RunError::Receive { asked, error }),
     }
 }

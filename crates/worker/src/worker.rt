@@ -1,5 +1,5 @@
 //! A worker of a consumer group.
-ghost use Rattle.std.specs.Prelude.{◌≡◌, ◌≢◌, ◌++◌, [], None, IfErr, IfOk, IfSome, OnOk, OnErr, map, true};
+ghost use Rattle.std.specs.Prelude.{◌≡◌, ◌≢◌, ◌++◌, [], None, IfErr, IfOk, IfSome, IsErr, OnOk, OnErr, map, true};
 ghost use Rattle.redis_resp.specs.Number.{unsigned_reading};
 ghost use Rattle.redis_resp.specs.Refusal.{RefusesNumber};
 ghost use Rattle.redis_resp.specs.Value.{tree};
@@ -14,7 +14,7 @@ ghost use Rattle.worker.specs.Machine.{Moved, at_request, commits, ending_said};
 ghost use Rattle.worker.specs.Machine.{history_at_request, ids_of, is_settled, machine_of};
 ghost use Rattle.worker.specs.Parts.{IsAcknowledged, IsOfGroup, IsRefused, Unread, state_by};
 ghost use Rattle.worker.specs.Questions.{asks, phase_of, sentence};
-ghost use Rattle.worker.specs.Requested.{Unasked};
+ghost use Rattle.worker.specs.Requested.{OnNotCommitted, Unasked};
 ghost use Rattle.worker.specs.Taking.{all_delivered};
 
 mod in_place;
@@ -124,6 +124,7 @@ impl Worker {
             (machine_of self.old) (H.history handler.old)) }
         ensures err { IfErr result (Unasked H.with_commit (machine_of self.old)
             (machine_of self.new) (H.history handler.old) (H.history handler.new)) }
+        ensures failed { IfErr result (λ e. OnNotCommitted e (H.commit_failed handler.old handler.new)) }
         ensures err_bytes { OnErr result (out.new.items ≡ out.old.items) }
         ensures err_asked { OnErr result (self.new.asked ≡ self.old.asked) }
         ensures settings { self.new.settings ≡ self.old.settings }
@@ -178,6 +179,7 @@ impl Worker {
             (machine_of self.old) (H.history handler.old)) }
         ensures err { OnErr result ((commits (machine_of self.old) ≡ true) × (self.new ≡ self.old)
             × (H.history handler.new ≡ H.history handler.old)) }
+        ensures failed { IsErr result → H.commit_failed handler.old handler.new }
         ensures settings { self.new.settings ≡ self.old.settings }
         ensures group { self.new.group ≡ self.old.group }
         ensures asked { self.new.asked ≡ self.old.asked }

@@ -1,13 +1,16 @@
 -- Lemmas on the commands of an outbox.
 use Rattle.std.proofs.Common.{◌≡◌, ◌<◌, ◌+◌, ◌∙◌, ap, subst, refl, inl, inr, ℕ, suc, List, [], ◌∷◌, ◌++◌, map}
-use Rattle.std.proofs.Common.{arith, true, length, get_or, take, drop, Vec, append-nil, Result, Ok, Err, OnErr, OnOk}
+use Rattle.std.proofs.Common.{arith, true, length, get_or, take, drop, Vec, append-nil, Result, Ok, Err, IfErr, OnErr, OnOk}
 use Rattle.std.proofs.lemmas.Grind.{flat_map-append}
 use Rattle.std.proofs.lemmas.List.{map_more}
 use Rattle.std.specs.declared.alloc.Global.{Global}
 use Rattle.redis_connection.specs.Link.{Link, Sends, SendsFront}
 use Rattle.redis_connection.specs.Passing.{ReceivesAnswer}
 use Rattle.redis_wire.specs.Reply.{Answer}
-use Rattle.worker.specs.Outbox.Sent.{all_bytes, IsNotTaken, Replied, SendsAll, SendsSome, takes}
+use Rattle.worker.specs.Outbox.Sent.{all_bytes, IsNotTaken, IsNotTakenBy, IsRepliedToBy, Replied, SendsAll, SendsSome}
+use Rattle.worker.specs.Outbox.Sent.{SendsSomeBy, takes}
+use Rattle.worker.specs.declared.outbox.error.OutboxError.{OutboxError}
+use Rattle.worker.specs.declared.outbox.error.OutboxError.TheVariants as causes
 
 -- the bytes of commands, in order
 abbrev pub texts_of : List (Vec ℕ Global) → List (List ℕ)
@@ -68,6 +71,40 @@ pub front_sent : (commands : List (List ℕ)) (old new : Link) (bytes : List ℕ
     → SendsFront old new bytes → SendsSome commands commands old new
 front_sent commands old new bytes are sends =
     inl (refl, inr (subst (λ (bs : List ℕ). SendsFront old new bs) are sends))
+
+-- ---- why some commands are left
+
+replied_by : (e : OutboxError) (commands left : List (List ℕ)) (old new : Link)
+    → IsRepliedToBy e commands left old new → SendsSomeBy e commands left old new
+replied_by (causes.Connection e) commands left old new r = inr r
+replied_by (causes.Refused e) commands left old new r = r
+replied_by causes.NotAnAnswer commands left old new r = r
+replied_by causes.Memory commands left old new r = absurd r.1
+
+pub some_sent_by : {A : Type 0} (ended : Result A OutboxError) (commands left : List (List ℕ)) (old m new : Link)
+    (bytes : List ℕ) (count wanted : ℕ) → bytes ≡ all_bytes commands → Sends old m bytes → wanted ≡ length commands
+    → OnErr ended ((count < wanted) × ((k : Link) × Replied count m k × IsNotTaken k new))
+    → IfErr ended (λ e. (k : Link) × Replied count m k × IsNotTaken k new × IsNotTakenBy e k new)
+    → left ≡ drop count commands → IfErr ended (λ e. SendsSomeBy e commands left old new)
+some_sent_by (Ok x) commands left old m new bytes count wanted are sends is some cause rest = tt
+some_sent_by (Err e) commands left old m new bytes count wanted are sends is some (k, replied, none, why) rest =
+    replied_by e commands left old new (
+      record {
+        between = m;
+        count = count;
+        fewer = subst (λ (n : ℕ). count < n) is some.0;
+        sends = subst (λ (bs : List ℕ). Sends old m bs) are sends;
+        last = k;
+        replied = replied;
+        not_taken = none;
+        left_is = rest;
+      },
+      why,
+    )
+
+pub front_sent_by : (commands : List (List ℕ)) (old new : Link) (bytes : List ℕ) → bytes ≡ all_bytes commands
+    → SendsFront old new bytes → (commands ≡ commands) × SendsFront old new (all_bytes commands)
+front_sent_by commands old new bytes are sends = (refl, subst (λ (bs : List ℕ). SendsFront old new bs) are sends)
 
 -- ---- what a result says
 

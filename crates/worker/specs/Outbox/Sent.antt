@@ -2,9 +2,12 @@
 use Rattle.std.specs.Prelude.{◌≡◌, ◌⊎◌, ℕ, zero, suc, Bool, true, false, ◌||◌, List, [], map, codes, drop, length, take}
 use Rattle.std.specs.Prelude.{Option, Some, None, ◌<◌}
 use Rattle.std.specs.List.{flat_map}
-use Rattle.redis_connection.specs.Link.{Link, Sends, SendsFront}
+use Rattle.redis_connection.specs.Link.{Link, IsEnded, IsFaulty, IsRetried, Sends, SendsFront}
 use Rattle.redis_connection.specs.Passing.{AwaitsAnswer, ReceivesAnswer}
-use Rattle.redis_wire.specs.Reply.{Answer, value, refused, group, pushed}
+use Rattle.redis_wire.specs.Reply.{Answer, AnswerList, value, refused, group, pushed}
+use Rattle.redis_wire.specs.declared.kind.GroupKind.{GroupKind}
+use Rattle.worker.specs.declared.outbox.error.OutboxError.{OutboxError}
+use Rattle.worker.specs.declared.outbox.error.OutboxError.TheVariants as causes
 use Rattle.worker.specs.declared.outbox.outbox.Outbox.{Outbox}
 
 -- the bytes of the commands without a reply, in order
@@ -54,3 +57,24 @@ pub record IsRepliedTo (commands left : List (List ℕ)) (old new : Link) : Type
 abbrev pub SendsSome : List (List ℕ) → List (List ℕ) → Link → Link → Type 0
 SendsSome commands left old new =
     ((left ≡ commands) × ((new ≡ old) ⊎ SendsFront old new (all_bytes commands))) ⊎ IsRepliedTo commands left old new
+
+-- why no reply was taken: none was received, and the error is the connection's; or the reply is this error of the
+-- server, or an aggregate with an error in it
+abbrev pub IsNotTakenBy : OutboxError → Link → Link → Type 0
+IsNotTakenBy (causes.Connection e) old new = AwaitsAnswer old new × IsEnded new e × IsFaulty new.held e × IsRetried e
+IsNotTakenBy (causes.Refused e) old new = ReceivesAnswer old new (refused e.text.items)
+IsNotTakenBy causes.NotAnAnswer old new = (k : GroupKind) × (xs : AnswerList) × ReceivesAnswer old new (group k xs)
+IsNotTakenBy causes.Memory old new = ⊥
+
+-- they were all sent, and this is why the first that is left got no reply
+abbrev pub IsRepliedToBy : OutboxError → List (List ℕ) → List (List ℕ) → Link → Link → Type 0
+IsRepliedToBy e commands left old new = (r : IsRepliedTo commands left old new) × IsNotTakenBy e r.last new
+
+-- why some commands are left. If memory ran out, nothing was sent
+abbrev pub SendsSomeBy : OutboxError → List (List ℕ) → List (List ℕ) → Link → Link → Type 0
+SendsSomeBy causes.Memory commands left old new = (left ≡ commands) × (new ≡ old)
+SendsSomeBy (causes.Connection e) commands left old new =
+    ((left ≡ commands) × SendsFront old new (all_bytes commands))
+    ⊎ IsRepliedToBy (causes.Connection e) commands left old new
+SendsSomeBy (causes.Refused e) commands left old new = IsRepliedToBy (causes.Refused e) commands left old new
+SendsSomeBy causes.NotAnAnswer commands left old new = IsRepliedToBy causes.NotAnAnswer commands left old new

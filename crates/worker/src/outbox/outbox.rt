@@ -1,11 +1,12 @@
 //! The commands to other streams that have no reply yet.
-ghost use Rattle.std.specs.Prelude.{◌≡◌, ◌↔◌, ◌<◌, ◌≤◌, ◌++◌, ◌∷◌, [], IfOk, IsTrue, OnErr, OnOk};
+ghost use Rattle.std.specs.Prelude.{◌≡◌, ◌↔◌, ◌<◌, ◌≤◌, ◌++◌, ◌∷◌, [], IfErr, IfOk, IsTrue, OnErr, OnOk};
 ghost use Rattle.std.specs.Prelude.{drop, false, length, map, take, true};
 ghost use Rattle.redis_connection.specs.Link.{Link};
 ghost use Rattle.redis_connection.specs.Passing.{ReceivesAnswer};
 ghost use Rattle.redis_wire.specs.Packed.{command_bytes};
 ghost use Rattle.redis_wire.specs.Reply.{Answer};
-ghost use Rattle.worker.specs.Outbox.Sent.{IsNotTaken, Replied, SendsAll, SendsSome, all_bytes, takes, unsent_of};
+ghost use Rattle.worker.specs.Outbox.Sent.{IsNotTaken, IsNotTakenBy, Replied, SendsAll, SendsSome, SendsSomeBy};
+ghost use Rattle.worker.specs.Outbox.Sent.{all_bytes, takes, unsent_of};
 
 use crate::outbox::error::OutboxError;
 use redis_connection::Connection;
@@ -84,6 +85,8 @@ impl Outbox {
             × SendsAll (unsent_of self.old) connection.old connection.new) }
         ensures err { OnErr result (SendsSome (unsent_of self.old) (unsent_of self.new)
             connection.old connection.new) }
+        ensures cause { IfErr result (λ e. SendsSomeBy e (unsent_of self.old) (unsent_of self.new)
+            connection.old connection.new) }
     {
         let bytes = join_commands(alloc, &self.commands)?;
         connection.send_bytes(&bytes)?;
@@ -122,6 +125,8 @@ fn take_replies<R: Read + Drop, W: Write + Drop>(
     ensures all { OnOk result.ended ((result.count ≡ wanted) × Replied wanted connection.old connection.new) }
     ensures some { OnErr result.ended ((result.count < wanted)
         × ((m : Link) × Replied result.count connection.old m × IsNotTaken m connection.new)) }
+    ensures cause { IfErr result.ended (λ e. (m : Link) × Replied result.count connection.old m
+        × IsNotTaken m connection.new × IsNotTakenBy e m connection.new) }
 {
     for count in 0..wanted {
         match take_reply(alloc, connection) {
@@ -147,6 +152,7 @@ fn take_reply<R: Read + Drop, W: Write + Drop>(
 ) -> Result<(), OutboxError>
     ensures ok { OnOk result ((a : Answer) × ReceivesAnswer connection.old connection.new a × (takes a ≡ true)) }
     ensures err { OnErr result (IsNotTaken connection.old connection.new) }
+    ensures cause { IfErr result (λ e. IsNotTakenBy e connection.old connection.new) }
 {
     match connection.receive(alloc) {
         Ok(Reply::Value(_)) => Ok(()),

@@ -1,8 +1,8 @@
 //! A worker's handler with an outbox.
-ghost use Rattle.std.specs.Prelude.{◌≡◌, ◌++◌, ℕ, [], List, IfErr, IfOk, OnErr, OnOk};
+ghost use Rattle.std.specs.Prelude.{◌≡◌, ◌++◌, ℕ, [], List, IfErr, IfOk, IsErr, OnErr, OnOk};
 ghost use Rattle.model_server.specs.Group.Worker as machine;
 ghost use Rattle.worker.specs.Outbox.Posts.{FailsPosting, Posts, PostsRound, committed_after, posted_too, posts_by};
-ghost use Rattle.worker.specs.Outbox.Sent.{SendsAll, SendsSome, unsent_of};
+ghost use Rattle.worker.specs.Outbox.Sent.{SendsAll, SendsSome, SendsSomeBy, unsent_of};
 ghost use Rattle.stream_in_place.specs.Sent.{Pairs};
 ghost use Rattle.worker.specs.Handling.{pair_of, verdict_of};
 ghost use Rattle.worker.specs.Session.{standing_of};
@@ -27,6 +27,9 @@ pub trait Work {
     /// The history so far.
     ghost history: { Self → History };
 
+    /// What is known of a commit that failed: of the work before it, and after it.
+    ghost commit_failed: { Self → Self → Type 0 } = { λ _ _. Unit {0} };
+
     /// The commands that are sent for an entry with this verdict, each as its bytes.
     ghost posts: { History → List ℕ × Pairs → machine.Verdict → List (List ℕ) };
 
@@ -40,7 +43,8 @@ pub trait Work {
     /// Makes all its work durable. It is called after every command got its reply.
     fn commit(&mut self, alloc: Global) -> Result<(), NotCommitted>
         ensures ok { OnOk result (history self.new ≡ with_commit (history self.old)) }
-        ensures err { OnErr result (history self.new ≡ history self.old) };
+        ensures err { OnErr result (history self.new ≡ history self.old) }
+        ensures failed { IsErr result → commit_failed self.old self.new };
 }
 
 /// Work with its outbox, as a worker's handler. It commits nothing while a command is in the outbox.
@@ -103,6 +107,8 @@ impl<W: Work + Drop> Posting<W> {
             × SendsAll (unsent_of self.old.outbox) connection.old connection.new) }
         ensures err { OnErr result (SendsSome (unsent_of self.old.outbox) (unsent_of self.new.outbox)
             connection.old connection.new) }
+        ensures cause { IfErr result (λ e. SendsSomeBy e (unsent_of self.old.outbox) (unsent_of self.new.outbox)
+            connection.old connection.new) }
         ensures work { self.new.work ≡ self.old.work }
     {
         self.outbox.send(alloc, connection)
@@ -118,6 +124,8 @@ impl<W: Work + Drop> Handler for Posting<W> {
 
     ghost history = { λ p. posts_by (W.history p.work) (unsent_of p.outbox) };
 
+    ghost commit_failed = { λ old new. unsent_of old.outbox ≡ [] → W.commit_failed old.work new.work };
+
     fn handle(&mut self, alloc: Global, entry: &EntryRef<'_>) -> Verdict {
         self.work.handle(alloc, entry, &mut self.outbox)
     }
@@ -129,6 +137,8 @@ impl<W: Work + Drop> Handler for Posting<W> {
         ensures history_kept { OnErr result (⟦<Posting<W> as Handler>⟧.history self.new
             ≡ ⟦<Posting<W> as Handler>⟧.history self.old) }
         ensures sent { OnOk result (unsent_of self.old.outbox ≡ []) }
+        ensures failed { IsErr result → unsent_of self.old.outbox ≡ []
+            → W.commit_failed self.old.work self.new.work }
     {
         if !self.outbox.is_empty() {
             return Err(NotCommitted);

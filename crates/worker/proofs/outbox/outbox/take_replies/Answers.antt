@@ -11,3 +11,7 @@ returns-in-Err-clause-some g c = (
 pub loop-count-preserved : goal.loop-count-preserved
 loop-count-preserved g c = one_more_reply c.loop-count.count c.args.connection.now c.loop-count.connection
     c.take_reply.new.connection c.loop-count.invariant c.in-Ok.ensures.ok
+
+pub returns-in-Err-clause-cause : goal.returns-in-Err-clause-cause
+returns-in-Err-clause-cause g c =
+    (c.loop-count.connection, c.loop-count.invariant, c.in-Err.ensures.err, c.in-Err.ensures.cause)

@@ -12,3 +12,6 @@ returns-in-Err-clause-err g c =
     c.begin_again_after.ensures.same
     (stands_failed c.try_ask.new.self c.begin_again_after.new.self r c.in-Err.error c.begin_again_after.ensures.machine
     c.begin_again_after.ensures.group c.begin_again_after.ensures.asked) c.in-Err.ensures.err
+
+pub returns-in-Err-clause-failed : goal.returns-in-Err-clause-failed
+returns-in-Err-clause-failed g c = rw c.begin_again_after.ensures.same c.in-Err.ensures.failed
