@@ -77,13 +77,13 @@ pub fn matches_of<'a>(
 pub fn refused<D: Display>(alloc: Global, command: &mut Command<'_>, reason: &D) -> Error
     ensures { (kind_of result ≡ ErrorKind.ValueValidation) ⊎ (kind_of result ≡ ErrorKind.OutOfMemory) }
 {
-    match refusal(alloc, command, reason) {
+    match refuse_value(alloc, command, reason) {
         Ok(error) => error,
         Err(error) => error.into(),
     }
 }
 
-fn refusal<D: Display>(
+fn refuse_value<D: Display>(
     alloc: Global,
     command: &mut Command<'_>,
     reason: &D,

@@ -146,7 +146,7 @@ impl<R: Read + Drop, W: Write + Drop> Connection<R, W> {
     }
 
     /// Returns the length of the next reply or push message, at the start of the bytes received.
-    fn stand(&mut self, alloc: Global) -> Result<usize, ConnectionError>
+    fn find_reply(&mut self, alloc: Global) -> Result<usize, ConnectionError>
         ensures ok { IfOk result (IsInPlace self.old self.new) }
         ensures err { OnErr result (Waits self.old self.new) }
         ensures ended { IfErr result (IsEnded self.new) }
@@ -174,7 +174,7 @@ impl<R: Read + Drop, W: Write + Drop> Connection<R, W> {
         ensures retried { IfErr result IsRetried }
     {
         for _turn in 0..u64::MAX {
-            let len = self.stand(alloc)?;
+            let len = self.find_reply(alloc)?;
             if !begins_as_message(self.received(len)) {
                 return Ok(len);
             }
@@ -212,7 +212,7 @@ impl<R: Read + Drop, W: Write + Drop> Connection<R, W> {
         ensures all { self.now.in_place ≤ len
             → result.now ≡ take self.now.in_place self.now.held.bytes }
     {
-        front_of(self.replies.bytes(), len)
+        take_front(self.replies.bytes(), len)
     }
 
     /// Consumes the first `len` bytes received, or as many of them as may be read in place. If they are the
@@ -246,7 +246,7 @@ impl<R: Read + Drop, W: Write + Drop> Connection<R, W> {
 }
 
 /// Returns the first `len` bytes, or all of them if there are fewer.
-fn front_of(bytes: &[u8], len: usize) -> &[u8]
+fn take_front(bytes: &[u8], len: usize) -> &[u8]
     ensures { result.now ≡ take len bytes.now }
 {
     match bytes.split_at_checked(len) {

@@ -19,7 +19,7 @@ use Rattle.server_commands.specs.Reading.{AreNews}
 use Rattle.server_commands.specs.Claiming.{sent_entry, sent_fields}
 use Rattle.server_commands.specs.Sent.{Sent, array_of, item_list, plain, sent}
 use Rattle.server_commands.specs.declared.answer.Answer.{Answer}
-use Rattle.server_commands.proofs.ReadModelLemmas.{handing_out_is_the_event, left_behind, left_given, left_passed, passed_on}
+use Rattle.server_commands.proofs.ReadModelLemmas.{handing_out_is_the_event, subtract_len, left_given, left_passed, passed_on}
 
 take_none : {A : Type 0} (n : ℕ) (xs : List A) → xs ≡ [] → take n xs ≡ []
 take_none zero xs none = refl
@@ -51,7 +51,7 @@ module _ (consumer : Name) (most : ℕ) (entries : List Entry) (last_id : EntryI
   none_passed = left_passed w.deleted most w.fresh ∙ take_none most (left_of w.deleted w.fresh) none_left
 
   none_behind : left_of w.deleted (behind w.deleted most w.fresh) ≡ []
-  none_behind = left_behind w.deleted most w.fresh ∙ drop_none most (left_of w.deleted w.fresh) none_left
+  none_behind = subtract_len w.deleted most w.fresh ∙ drop_none most (left_of w.deleted w.fresh) none_left
 
   log_same : (w.seen ++ passed w.deleted most w.fresh) ++ behind w.deleted most w.fresh ≡ w.seen ++ w.fresh
   log_same = append_assoc w.seen (passed w.deleted most w.fresh) (behind w.deleted most w.fresh)

@@ -271,13 +271,13 @@ module _ (deleted : List worker_model.Id) where
     | inr f ↦ rw f (ap (λ (xs : List (worker_model.Entry Fields)). e ∷ xs) (left_passed n es))
   ]
 
-  pub left_behind : (n : ℕ) (es : List (worker_model.Entry Fields)) → left_of deleted (behind deleted n es) ≡ drop n (left_of deleted es)
-  left_behind zero [] = refl
-  left_behind (suc n) [] = refl
-  left_behind zero (e ∷ es) = refl
-  left_behind (suc n) (e ∷ es) = elim (cases_Bool (listed deleted e.0)) [
-    | inl t ↦ rw t (left_behind (suc n) es)
-    | inr f ↦ rw f (left_behind n es)
+  pub subtract_len : (n : ℕ) (es : List (worker_model.Entry Fields)) → left_of deleted (behind deleted n es) ≡ drop n (left_of deleted es)
+  subtract_len zero [] = refl
+  subtract_len (suc n) [] = refl
+  subtract_len zero (e ∷ es) = refl
+  subtract_len (suc n) (e ∷ es) = elim (cases_Bool (listed deleted e.0)) [
+    | inl t ↦ rw t (subtract_len (suc n) es)
+    | inr f ↦ rw f (subtract_len n es)
   ]
 
 -- ---- what is delivered is pending at the end
@@ -561,7 +561,7 @@ module _ (consumer : Name) (now most : ℕ) (entries : List Entry) (last_id : En
   fresh_after : map as_entry (entries_behind new.last_id entries) ≡ left_of w.deleted (behind w.deleted most w.fresh)
   fresh_after = ap (λ (id : EntryId). map as_entry (entries_behind id entries)) last_after ∙ ap (map as_entry) pieces.0
       ∙ sym (drop-map as_entry most (entries_behind old.last_id entries)) ∙ ap (drop most) model.fresh
-      ∙ sym (left_behind w.deleted most w.fresh)
+      ∙ sym (subtract_len w.deleted most w.fresh)
 
   abbrev names : List (ℕ × Name)
   names = names_of new.consumers.items

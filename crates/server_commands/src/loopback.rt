@@ -172,7 +172,7 @@ fn count_passing(left: Option<usize>, len: usize, kind: ErrorKind) -> io::Result
 }
 
 /// How many bytes may still pass after `len` more.
-fn left_behind(left: Option<usize>, len: usize) -> Option<usize>
+fn subtract_len(left: Option<usize>, len: usize) -> Option<usize>
     ensures { MayPass left len → Passes left result len }
 {
     match left {
@@ -225,7 +225,7 @@ impl Read for LoopbackReader {
         let line = &mut *line;
         let (front, _) = buf.split_at_mut(len);
         let given = give(&mut line.answers, line.client.has_ended(), front)?;
-        self.left = left_behind(self.left, given);
+        self.left = subtract_len(self.left, given);
         Ok(given)
     }
 }
@@ -255,7 +255,7 @@ impl Write for LoopbackWriter {
         let answers = &mut line.answers;
         line.client
             .answer(self.alloc, &mut *server, now, front, answers)?;
-        self.left = left_behind(self.left, len);
+        self.left = subtract_len(self.left, len);
         Ok(len)
     }
 

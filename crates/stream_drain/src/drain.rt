@@ -117,7 +117,7 @@ fn turn<R: Read + Drop, W: Write + Drop, D: LogFile + Drop, T: Clock + Eprint + 
     let before = lines.seen;
     look(rt.alloc(), connection, lines, dead, asked)?;
     let alone = dead.is_some() || report.is_due(rt);
-    let made = any_round(rt.alloc(), connection, worker, lines, wait, alone)?;
+    let made = make_any_round(rt.alloc(), connection, worker, lines, wait, alone)?;
     let due = made.acknowledged || made.round.asked == Asked::Acknowledgement;
     count(rt, connection, report, lines.committed, due)?;
     Ok(TurnMade {
@@ -147,7 +147,7 @@ fn look<R: Read + Drop, W: Write + Drop, D: LogFile + Drop>(
 }
 
 /// Makes a round, confirmed by replicas if `--wait` is given, after which the worker goes on.
-fn any_round<R: Read + Drop, W: Write + Drop, D: LogFile + Drop>(
+fn make_any_round<R: Read + Drop, W: Write + Drop, D: LogFile + Drop>(
     alloc: Global,
     connection: &mut Connection<R, W>,
     worker: &mut Worker,
@@ -201,14 +201,14 @@ fn confirmed<R: Read + Drop, W: Write + Drop, D: LogFile + Drop>(
     match round_confirmed(alloc, connection, worker, lines, wait) {
         Ok(round) => {
             goes_on(round.progress, &lines.fault, &lines.undone)?;
-            Ok(alone(round))
+            Ok(make_single(round))
         }
-        Err(error) => Err(unconfirmed(error, &lines.fault)),
+        Err(error) => Err(explain_unconfirmed(error, &lines.fault)),
     }
 }
 
 /// The failure of a confirmed round.
-fn unconfirmed(error: RoundError, fault: &Option<Fault>) -> Failure {
+fn explain_unconfirmed(error: RoundError, fault: &Option<Fault>) -> Failure {
     match error {
         RoundError::Run(error) => convert_run_error(error, fault),
         RoundError::Unconfirmed(error) => Failure::Unconfirmed(error),
@@ -246,7 +246,7 @@ fn round<R: Read + Drop, W: Write + Drop, D: LogFile + Drop>(
         match worker.round(alloc, connection, lines) {
             Ok(round) => {
                 goes_on(round.progress, &lines.fault, &lines.undone)?;
-                Ok(alone(round))
+                Ok(make_single(round))
             }
             Err(error) => Err(convert_run_error(error, &lines.fault)),
         }
@@ -254,7 +254,7 @@ fn round<R: Read + Drop, W: Write + Drop, D: LogFile + Drop>(
 }
 
 /// A round with a write of its own, as a `Pipelined`.
-fn alone(round: Round) -> Pipelined
+fn make_single(round: Round) -> Pipelined
     ensures { result ≡ record { acknowledged = false; round = round } }
 {
     Pipelined {
@@ -309,7 +309,7 @@ fn show<R: Read + Drop, W: Write + Drop, T: Eprint + AllocGlobal>(
     ensures ok { OnOk result (Besides connection.old connection.new) }
     ensures err { OnErr result (BreaksBesides connection.old connection.new) }
 {
-    match backlog_told(rt.alloc(), connection, &report.watched) {
+    match find_backlog(rt.alloc(), connection, &report.watched) {
         Ok(Some(backlog)) => say(rt, report, &backlog),
         Ok(None) => say(rt, report, &""),
         Err(AskError::Server(error)) => {
@@ -340,7 +340,7 @@ fn written<T: Eprint, M: fmt::Display>(rt: &T, report: &Report, more: &M) -> Any
 
 /// Reads the backlog of the watched group from the server; `None` if no group is watched, or the server has no such
 /// group.
-fn backlog_told<R: Read + Drop, W: Write + Drop>(
+fn find_backlog<R: Read + Drop, W: Write + Drop>(
     alloc: Global,
     connection: &mut Connection<R, W>,
     watched: &Option<Watched>,

@@ -92,19 +92,19 @@ fn find_id(alloc: Global, line: &[u8], json: bool) -> Result<Option<String>, All
 {
     if json {
         match find_id_in_json(line) {
-            Some(id) => id_text(alloc, id),
+            Some(id) => read_id(alloc, id),
             None => Ok(None),
         }
     } else {
         match entry_in(alloc, line)? {
-            Some(entry) => id_text(alloc, &entry.id),
+            Some(entry) => read_id(alloc, &entry.id),
             None => Ok(None),
         }
     }
 }
 
 /// These bytes as an id, if each is a digit or a hyphen, and there is a hyphen.
-fn id_text(alloc: Global, id: &[u8]) -> Result<Option<String>, AllocError>
+fn read_id(alloc: Global, id: &[u8]) -> Result<Option<String>, AllocError>
     ensures { IfOk result (λ o. IfSome o (λ text. string_bytes text ≡ id.now)) }
 {
     if of_id(id) < id.len() || !id.contains(&b'-') {

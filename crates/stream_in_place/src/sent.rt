@@ -202,7 +202,7 @@ pub struct SentClaim {
 }
 
 /// The rows that are not `None`, in order.
-fn rows_there(alloc: Global, rows: Vec<Option<SentRow>>) -> Result<Vec<SentRow>, ParsingError>
+fn count_rows_there(alloc: Global, rows: Vec<Option<SentRow>>) -> Result<Vec<SentRow>, ParsingError>
     ensures ok { IfOk result (λ r. map sent_of r.items ≡ there (map (option_map sent_of) rows.items)) }
     ensures err { IfErr result (λ e. e ≡ ParsingError.Memory) }
 {
@@ -231,14 +231,14 @@ fn read_claim<S: Source>(alloc: Global, v: S) -> Result<SentClaim, ParsingError>
         let (next, rows): (String, Vec<Option<SentRow>>) = v.read(alloc)?;
         return Ok(SentClaim {
             next,
-            claimed: rows_there(alloc, rows)?,
+            claimed: count_rows_there(alloc, rows)?,
             deleted: Vec::new(alloc),
         });
     }
     let (next, rows, deleted): (String, Vec<Option<SentRow>>, Vec<String>) = v.read(alloc)?;
     Ok(SentClaim {
         next,
-        claimed: rows_there(alloc, rows)?,
+        claimed: count_rows_there(alloc, rows)?,
         deleted,
     })
 }

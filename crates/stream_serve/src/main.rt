@@ -33,7 +33,7 @@ fn serve<R: Read, W: Write, C: Clock>(
         }
         let now = match fixed {
             Some(now) => now,
-            None => moment(clock)?,
+            None => read_clock(clock)?,
         };
         client.answer(alloc, &mut server, now, &piece[..len], &mut answers)?;
         send(&mut answers, output)?;
@@ -55,7 +55,7 @@ fn send<W: Write>(answers: &mut Vec<u8>, output: &mut W) -> Result<()>
 }
 
 /// Milliseconds since 1970.
-fn moment<C: Clock>(clock: &C) -> Result<u64> {
+fn read_clock<C: Clock>(clock: &C) -> Result<u64> {
     let now = SystemTime::now(clock)?;
     match now.duration_since(UNIX_EPOCH) {
         Ok(duration) => Ok(u64::try_from(duration.as_millis()).unwrap_or(u64::MAX)),

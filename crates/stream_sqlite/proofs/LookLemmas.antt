@@ -24,7 +24,7 @@ pub looked_on : (settings : Settings) (old m new : Link) (w x : Standing Kept) �
     → Leads (Loops settings) m new w x → Leads (Loops settings) old new w x
 looked_on settings old m new w x a b = leads_both settings old m new w w x (leads_besides settings old m w a) b
 
--- it looked, and then a round stopped
+-- it looked, and then a round explain_stop
 pub looked_stops : (settings : Settings) (old m new : Link) (w x : Standing Kept) → Besides old m
     → Leads (Stops settings) m new w x → Leads (Stops settings) old new w x
 looked_stops settings old m new w x a b = leads_stop settings old m new w w x (leads_besides settings old m w a) b

@@ -143,7 +143,7 @@ fn say_left<P: Eprint + AllocGlobal>(
 ) -> Result<()> {
     let more = left.saturating_sub(before);
     if 0 < more {
-        let reason = format!(in rt.alloc(); "{}", stopped(fault, undone))?;
+        let reason = format!(in rt.alloc(); "{}", explain_stop(fault, undone))?;
         eprintln!(rt; "{more} left pending, the last one: {}", Masked(&reason))?;
     }
     Ok(())
@@ -204,7 +204,7 @@ fn goes_on(progress: Progress, fault: &Option<Fault>, undone: &Option<String>) -
 {
     match progress {
         Progress::GoesOn => Ok(()),
-        Progress::Stopped => Err(stopped(fault, undone)),
+        Progress::Stopped => Err(explain_stop(fault, undone)),
     }
 }
 
@@ -237,7 +237,7 @@ fn explain_commit_error(fault: &Option<Fault>) -> Error {
 }
 
 /// The error of an entry that was not done, with its id if that is known.
-fn stopped(fault: &Option<Fault>, undone: &Option<String>) -> Error {
+fn explain_stop(fault: &Option<Fault>, undone: &Option<String>) -> Error {
     match (fault, undone) {
         (
             Some(

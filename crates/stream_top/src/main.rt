@@ -311,7 +311,7 @@ fn format_heading(
     key: &str,
     stream: &StreamInfoFullReply,
 ) -> Result<String, AllocError> {
-    let mut text = shown(alloc, key)?;
+    let mut text = mask_name(alloc, key)?;
     write!(
         text,
         ": {} entries, {} groups, last id {}\n",
@@ -358,7 +358,7 @@ fn push_state(
     name: &str,
     state: &GroupState,
 ) -> Result<(), AllocError> {
-    cells.push(shown(alloc, name)?)?;
+    cells.push(mask_name(alloc, name)?)?;
     cells.push(match state.lag {
         Some(lag) => number(alloc, lag)?,
         None => String::from_str(alloc, "?")?,
@@ -380,7 +380,7 @@ fn push_consumer(
     state: &GroupState,
     now: usize,
 ) -> Result<(), AllocError> {
-    cells.push(shown(alloc, &consumer.name)?)?;
+    cells.push(mask_name(alloc, &consumer.name)?)?;
     cells.push(number(alloc, consumer.pending_count)?)?;
     let mut seen = format_age(alloc, now.saturating_sub(consumer.seen_time))?;
     seen.push_str(" ago")?;
@@ -419,7 +419,7 @@ fn format_age(alloc: Global, milliseconds: usize) -> Result<String, AllocError> 
 }
 
 /// A name as it may be shown: a control character, which could steer a terminal, is shown as `?`.
-fn shown(alloc: Global, name: &str) -> Result<String, AllocError> {
+fn mask_name(alloc: Global, name: &str) -> Result<String, AllocError> {
     let mut text = String::new(alloc);
     for letter in name.chars() {
         if letter.is_control() {

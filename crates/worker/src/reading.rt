@@ -72,7 +72,7 @@ pub fn read_new(alloc: Global, key: &str, value: Value) -> Result<Vec<SentRow>, 
     ensures err { IfErr result (NotNews key.now (tree value)) }
 {
     let entries = read_entries(alloc, key, value)?;
-    match nil_id(&entries)? {
+    match find_nil_id(&entries)? {
         None => Ok(entries),
         Some(id) => Err(WorkerError::NilFields(id)),
     }
@@ -84,14 +84,14 @@ pub fn read_claim(alloc: Global, value: Value) -> Result<SentClaim, WorkerError>
     ensures err { IfErr result (NotClaimed [] (tree value)) }
 {
     let claim: SentClaim = from_redis_value(alloc, value)?;
-    match nil_id(&claim.claimed)? {
+    match find_nil_id(&claim.claimed)? {
         None => Ok(claim),
         Some(id) => Err(WorkerError::NilFields(id)),
     }
 }
 
 /// The id of the first entry with nil in place of its fields.
-fn nil_id(entries: &[SentRow]) -> Result<Option<String>, AllocError>
+fn find_nil_id(entries: &[SentRow]) -> Result<Option<String>, AllocError>
     ensures { IfOk result (λ id. option_map string_bytes id ≡ first_nil (map sent_of entries.now)) }
 {
     for entry in entries {

@@ -465,7 +465,7 @@ fn convert_server_error(asked: Asked, error: ServerError) -> WorkerError
     requires { asked ≢ Asked.Nothing }
     ensures { IsRefused asked error.text.items result }
 {
-    if reports_lost_group(asked, &error) {
+    if is_lost_group(asked, &error) {
         WorkerError::GroupIsGone(error)
     } else {
         WorkerError::Server(error)
@@ -473,7 +473,7 @@ fn convert_server_error(asked: Asked, error: ServerError) -> WorkerError
 }
 
 /// Whether an error reports that a known group is gone.
-fn reports_lost_group(asked: Asked, error: &ServerError) -> bool
+fn is_lost_group(asked: Asked, error: &ServerError) -> bool
     ensures { result ≡ is_gone asked error.now.text.items }
 {
     match asked {

@@ -49,11 +49,11 @@ fn read_members(members: Vec<Reply>, sent: u64) -> Result<(), FeedError>
     if members.len() as u64 != sent {
         return Err(FeedError::NotAnAnswer);
     }
-    each_stands(members)
+    check_each(members)
 }
 
 /// Checks that each reply is one of a record in the stream. Returns the error of the first that is not.
-fn each_stands(members: Vec<Reply>) -> Result<(), FeedError>
+fn check_each(members: Vec<Reply>) -> Result<(), FeedError>
     ensures ok { OnOk result (not_standing (answer_list (map answer members.items)) ≡ None) }
     ensures err { IfErr result (IsOfFirst (not_standing (answer_list (map answer members.items)))) }
 {

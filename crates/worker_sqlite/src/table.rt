@@ -45,7 +45,7 @@ impl SqliteTable<FileStore<File>> {
     {
         match Connection::open(rt, path) {
             Ok(conn) => SqliteTable::over(rt.alloc(), conn, form),
-            Err(error) => Err(OpenError::Table(refused(error))),
+            Err(error) => Err(OpenError::Table(convert_error(error))),
         }
     }
 
@@ -55,7 +55,7 @@ impl SqliteTable<FileStore<File>> {
     {
         match self.conn.close() {
             Ok(()) => Ok(()),
-            Err(error) => Err(refused(error)),
+            Err(error) => Err(convert_error(error)),
         }
     }
 }
@@ -149,7 +149,7 @@ impl<S: Alter + Drop> Table for SqliteTable<S> {
 }
 
 /// Converts an error of the database to one of a table.
-fn refused(error: Error) -> TableError
+fn convert_error(error: Error) -> TableError
     ensures { IsNamed result }
 {
     TableError::Refused(reason(error))
@@ -163,7 +163,7 @@ fn run<S: Alter + Drop>(conn: &mut Connection<S>, sql: &str) -> Result<(), Table
 {
     match conn.execute(sql, &[]) {
         Ok(_) => Ok(()),
-        Err(error) => Err(refused(error)),
+        Err(error) => Err(convert_error(error)),
     }
 }
 
@@ -177,7 +177,7 @@ fn insert<S: Alter + Drop>(
 {
     match conn.execute(sql, values) {
         Ok(count) => Ok(count == 1),
-        Err(error) => Err(refused(error)),
+        Err(error) => Err(convert_error(error)),
     }
 }
 
@@ -192,7 +192,7 @@ fn insert_many<S: Alter + Drop>(
     match conn.execute(sql, values) {
         Ok(_) => Ok(true),
         Err(Error::SqliteFailure(ErrorCode::ConstraintViolation(_))) => Ok(false),
-        Err(error) => Err(refused(error)),
+        Err(error) => Err(convert_error(error)),
     }
 }
 
@@ -207,7 +207,7 @@ fn shows<S: Alter + Drop>(
     match conn.query_row(sql, values) {
         Ok(_) => Ok(true),
         Err(Error::QueryReturnedNoRows) => Ok(false),
-        Err(error) => Err(refused(error)),
+        Err(error) => Err(convert_error(error)),
     }
 }
 
@@ -273,7 +273,7 @@ fn text_of<S: Alter + Drop>(
     let row = match conn.query_row(sql, params) {
         Ok(row) => row,
         Err(Error::QueryReturnedNoRows) => return Ok(None),
-        Err(error) => return Err(refused(error)),
+        Err(error) => return Err(convert_error(error)),
     };
     match row.get_ref(0) {
         Ok(ValueRef::Text(text)) => Ok(Some(Vec::from_slice(alloc, text)?)),

@@ -47,7 +47,7 @@ fn overlap(one: &SlotRange, other: &SlotRange) -> bool
 }
 
 /// Whether the range overlaps one of the others.
-fn overlaps_any(range: &SlotRange, others: &[SlotRange]) -> bool
+fn has_overlap(range: &SlotRange, others: &[SlotRange]) -> bool
     ensures { result ≡ list_any (overlap range.now) others.now }
 {
     others.iter().any(|other| overlap(range, other))
@@ -59,7 +59,7 @@ fn all_apart(ranges: &[SlotRange]) -> bool
 {
     let mut left = ranges;
     while let Some((range, others)) = left.split_first() {
-        if overlaps_any(range, others) {
+        if has_overlap(range, others) {
             return false;
         }
         left = others;

@@ -52,7 +52,7 @@ impl Topology {
         ensures { option_map (λ n. node_meaning n.now) result ≡ master_of (shards_of self.now) slot }
     {
         let shard = shard_of(&self.shards, slot)?;
-        known_master(&shard.nodes)
+        find_known_master(&shard.nodes)
     }
 }
 
@@ -72,7 +72,7 @@ fn shard_of(shards: &[Shard], slot: u16) -> Option<&Shard>
 }
 
 /// The first of the nodes that is a master whose host and port are known.
-fn known_master(nodes: &[Node]) -> Option<&Node>
+fn find_known_master(nodes: &[Node]) -> Option<&Node>
     ensures { option_map (λ n. node_meaning n.now) result
         ≡ find is_known_master (map node_meaning nodes.now) }
 {

@@ -52,14 +52,14 @@ pub(super) fn group(
     };
     let options = options_in(alloc, action, word, subcommand, rest)?;
     match place_of(streams, key) {
-        Ok(index) => done_on(alloc, &mut streams[index], now, action, arguments, options),
+        Ok(index) => execute_on(alloc, &mut streams[index], now, action, arguments, options),
         Err(_) if options.makes_stream => create_stream(alloc, streams, key, name, rest, options),
         Err(_) => Err(NO_KEY),
     }
 }
 
 /// Executes the action on an existing stream.
-fn done_on(
+fn execute_on(
     alloc: Global,
     stream: &mut Stream,
     now: u64,

@@ -235,8 +235,8 @@ fn group_info(alloc: Global, stream: &Stream, group: &Group) -> Result<Answer, A
         ("consumers", length(group.consumers.len())),
         ("pending", length(group.pending.len())),
         ("last-delivered-id", Answer::Id(group.last_id)),
-        ("entries-read", maybe(group.entries_read)),
-        ("lag", maybe(lag(stream, group))),
+        ("entries-read", number_or_nil(group.entries_read)),
+        ("lag", number_or_nil(lag(stream, group))),
     ]?;
     let mut rows = Vec::new(alloc);
     put_rows(alloc, &mut rows, told)?;
@@ -244,7 +244,7 @@ fn group_info(alloc: Global, stream: &Stream, group: &Group) -> Result<Answer, A
 }
 
 /// A number, or nil if it is not known.
-fn maybe(n: Option<i64>) -> Answer {
+fn number_or_nil(n: Option<i64>) -> Answer {
     match n {
         Some(n) => Answer::Int(n),
         None => Answer::Nil,

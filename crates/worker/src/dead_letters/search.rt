@@ -328,13 +328,13 @@ impl DeadLetterSearch {
             entries.now connection.old connection.new) }
         ensures same { self.new ≡ record self.old { letters = self.new.letters } }
     {
-        let mut desk = self.desk(alloc)?;
+        let mut desk = self.make_queue(alloc)?;
         self.post_all(alloc, connection, &mut desk, entries, min_idle)?;
         deliver(alloc, connection, &mut desk, &mut self.letters)
     }
 
     /// An empty queue of letters.
-    fn desk(&self, alloc: Global) -> Result<DeadLetters, AllocError>
+    fn make_queue(&self, alloc: Global) -> Result<DeadLetters, AllocError>
         ensures names { IfOk result (λ d. names_of d ≡ letter_names self.now) }
         ensures waits { IfOk result (λ d. desk_of d ≡ none_waits) }
     {
@@ -491,7 +491,7 @@ fn post(
     ensures names { names_of desk.new ≡ names_of desk.old }
     ensures added { (desk_of desk.new).added ≡ (desk_of desk.old).added }
 {
-    let Some((claimed, texts)) = the_row(rows) else {
+    let Some((claimed, texts)) = take_only_row(rows) else {
         return Ok(());
     };
     if claimed.as_str() != entry.id.as_str() {
@@ -501,7 +501,7 @@ fn post(
 }
 
 /// The only row; `None` if there is not exactly one.
-fn the_row(rows: &[Option<(String, Vec<RawBytes>)>]) -> Option<&(String, Vec<RawBytes>)>
+fn take_only_row(rows: &[Option<(String, Vec<RawBytes>)>]) -> Option<&(String, Vec<RawBytes>)>
     ensures { MatchOption result ((e : Entry) → AreJust (rows_of rows.now) e → e.1 ≡ [])
         (λ row. rows.now ≡ Some row.now ∷ []) }
 {

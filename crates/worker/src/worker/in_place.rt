@@ -111,7 +111,7 @@ impl Worker {
         match tape.read_either_form(bytes, limits)? {
             Some(found) => {
                 let outcome = self.take_found_own(alloc, found.streams, handler);
-                in_answer_to(asked, outcome)
+                name_answer_error(asked, outcome)
             }
             None => self.take_decoded(alloc, bytes, limits, handler),
         }
@@ -136,7 +136,7 @@ impl Worker {
         match tape.read_autoclaim(bytes, limits)? {
             Some(found) => {
                 let outcome = self.take_found_claimed(alloc, found, handler);
-                in_answer_to(asked, outcome)
+                name_answer_error(asked, outcome)
             }
             None => self.take_decoded(alloc, bytes, limits, handler),
         }
@@ -161,7 +161,7 @@ impl Worker {
         match tape.read_either_form(bytes, limits)? {
             Some(found) => {
                 let outcome = self.take_found_new(alloc, found.streams, handler);
-                in_answer_to(asked, outcome)
+                name_answer_error(asked, outcome)
             }
             None => self.take_decoded(alloc, bytes, limits, handler),
         }
@@ -279,7 +279,7 @@ impl Worker {
 }
 
 /// The result of a reply to this command; an error names the command.
-fn in_answer_to(
+fn name_answer_error(
     asked: Asked,
     outcome: Result<Progress, WorkerError>,
 ) -> Result<Progress, InPlaceError>

@@ -76,20 +76,20 @@ gap_found ids n i rises within is = record {
 -- put there, it leaves the ids in order
 put_in : (ids : List KnownId) (n at : ℕ) (id : KnownId) → number_in id ≡ n → IsNonDecreasingBy number_in ids → IsGap ids n at
     → IsNonDecreasingBy number_in (insert ids at id)
-put_in ids n at id is rises gap = IsNonDecreasingBy-insert number_in ids at id rises gap.within
+put_in ids n at id is rises find_gap = IsNonDecreasingBy-insert number_in ids at id rises find_gap.within
     (λ k d lt. omega (
       arith,
-      ap number_in (get_or_default ids k d no_id (omega (arith, lt, gap.within))),
-      gap.before k lt,
+      ap number_in (get_or_default ids k d no_id (omega (arith, lt, find_gap.within))),
+      find_gap.before k lt,
       is,
     ))
-    (λ k d le lt. omega (arith, ap number_in (get_or_default ids k d no_id lt), gap.behind k le lt, is))
+    (λ k d le lt. omega (arith, ap number_in (get_or_default ids k d no_id lt), find_gap.behind k le lt, is))
 
 -- and so it does if it was not put in
 pub still_rises : (ids : List KnownId) (n at : ℕ) (id : KnownId) (is_in : Bool) → number_in id ≡ n
     → IsNonDecreasingBy number_in ids → IsGap ids n at → IsNonDecreasingBy number_in (if is_in then insert ids at id else ids)
-still_rises ids n at id true is rises gap = put_in ids n at id is rises gap
-still_rises ids n at id false is rises gap = rises
+still_rises ids n at id true is rises find_gap = put_in ids n at id is rises find_gap
+still_rises ids n at id false is rises find_gap = rises
 
 -- ---- the search
 

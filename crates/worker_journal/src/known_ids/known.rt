@@ -104,13 +104,13 @@ impl KnownIds {
         ensures same { OnErr result (self.new.ids.items ≡ self.old.ids.items) }
         ensures room { OnErr result (HasRoom self.old.ids → ⊥) }
     {
-        let at = self.gap(number);
+        let at = self.find_gap(number);
         self.ids.insert(at, KnownId::new(number, place))?;
         Ok(())
     }
 
     /// The index at which this number would be inserted.
-    fn gap(&self, number: u128) -> usize
+    fn find_gap(&self, number: u128) -> usize
         ensures { IsGap self.now.ids.items number result }
     {
         match self.search(number) {

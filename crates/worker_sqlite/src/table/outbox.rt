@@ -8,7 +8,7 @@ ghost use Rattle.worker_table.specs.RowTable.Posts.{post_for};
 ghost use Rattle.worker_sqlite.specs.Outbox.{AreValues, Counts, FoundPost, ShowsOutbox, WaitsIn, bytes_value, enqueue_text, first_text, number_value, outbox_create, post_values, remove_text};
 ghost use Rattle.worker_sqlite.specs.Statements.{IsMade, IsNamedAtOpening, LeavesBy, Ran, RanOne, Shows, TakesBack, key_values, row_values};
 
-use super::{SqliteTable, definition, make, malformed_error, refused};
+use super::{SqliteTable, convert_error, definition, make, malformed_error};
 use crate::error::OpenError;
 use crate::values::{values_of_key, values_of_post};
 use sqlite::types::ValueRef;
@@ -188,7 +188,7 @@ fn count_posts<S: Alter + Drop>(conn: &mut Connection<S>) -> Result<u64, TableEr
 {
     match conn.query_row(COUNT, &[]) {
         Ok(row) => number_at(&row, 0),
-        Err(error) => Err(refused(error)),
+        Err(error) => Err(convert_error(error)),
     }
 }
 
@@ -202,7 +202,7 @@ fn write<S: Alter + Drop>(
 {
     match conn.execute(sql, values) {
         Ok(_) => Ok(()),
-        Err(error) => Err(refused(error)),
+        Err(error) => Err(convert_error(error)),
     }
 }
 
@@ -216,7 +216,7 @@ fn first_post<S: Alter + Drop>(
     match conn.query_row(FIRST, &[]) {
         Ok(row) => Ok(Some(post_in(alloc, &row)?)),
         Err(Error::QueryReturnedNoRows) => Ok(None),
-        Err(error) => Err(refused(error)),
+        Err(error) => Err(convert_error(error)),
     }
 }
 

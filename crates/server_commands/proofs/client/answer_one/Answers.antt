@@ -19,13 +19,12 @@ returns-clause-ok c =
       xadd = c.in_ok-reply.ensures.xadd;
       xautoclaim = c.in_ok-reply.ensures.xautoclaim;
       xreadgroup = c.in_ok-reply.ensures.xreadgroup;
-    } in
-    (
+    } in (
       Some (c.session.inside.protocol, c.in_ok-reply.reply),
       some_words (λ w. w.items) c.args.words.items (c.session.inside.protocol, c.in_ok-reply.reply)
-      (record { streams = c.args.server.now; session = c.args.session.now })
-      (record { streams = c.step.new.self; session = c.step.new.session }) some step
-      (ap (λ (s : SeenSession). s.protocol) c.session.view_is),
+          (record { streams = c.args.server.now; session = c.args.session.now })
+          (record { streams = c.step.new.self; session = c.step.new.session }) some step
+          (ap (λ (s : SeenSession). s.protocol) c.session.view_is),
       c.in_ok-append_reply.ensures.ok,
     )
 

@@ -2,7 +2,7 @@
 ghost use Rattle.std.specs.Prelude.{IfOk};
 ghost use Rattle.server_commands.specs.Kinds.{IsInfo};
 
-use super::{head_rows, lag, maybe, put_rows};
+use super::{head_rows, lag, number_or_nil, put_rows};
 use crate::answer::Answer;
 use crate::commands::answers::{array, bytes_answer, length, number, put};
 use crate::commands::{entries_up, name_of};
@@ -51,8 +51,8 @@ fn group_in_full(
     let told = vec![in alloc;
         ("name", name),
         ("last-delivered-id", Answer::Id(group.last_id)),
-        ("entries-read", maybe(group.entries_read)),
-        ("lag", maybe(lag(stream, group))),
+        ("entries-read", number_or_nil(group.entries_read)),
+        ("lag", number_or_nil(lag(stream, group))),
         ("pel-count", length(group.pending.len())),
         ("pending", Answer::Array(pending)),
         ("consumers", Answer::Array(consumers)),

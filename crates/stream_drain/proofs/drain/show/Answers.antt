@@ -11,21 +11,21 @@ pub returns-in-Ok-None-clause-err : goal.returns-in-Ok-None-clause-err
 returns-in-Ok-None-clause-err g c = on_err c.say-in-Ok-None.result (ends_so _ _ c.in-Ok-None.ensures.ok)
 
 pub returns-in-Err-Server-clause-ok : goal.returns-in-Err-Server-clause-ok
-returns-in-Err-Server-clause-ok g c = on_ok c.say-in-Err-Server.result (one_look _ _ (subst (LooksNot c.args.connection.now c.backlog_told.new.connection)
+returns-in-Err-Server-clause-ok g c = on_ok c.say-in-Err-Server.result (one_look _ _ (subst (LooksNot c.args.connection.now c.find_backlog.new.connection)
     c.in-Err-Server.field-0-is c.in-Err-Server.ensures.err))
 
 pub returns-in-Err-Server-clause-err : goal.returns-in-Err-Server-clause-err
 returns-in-Err-Server-clause-err g c =
-    on_err c.say-in-Err-Server.result (ends_so _ _ (one_look _ _ (subst (LooksNot c.args.connection.now c.backlog_told.new.connection)
+    on_err c.say-in-Err-Server.result (ends_so _ _ (one_look _ _ (subst (LooksNot c.args.connection.now c.find_backlog.new.connection)
     c.in-Err-Server.field-0-is c.in-Err-Server.ensures.err)))
 
 pub returns-in-Err-Parsing-clause-ok : goal.returns-in-Err-Parsing-clause-ok
-returns-in-Err-Parsing-clause-ok g c = on_ok c.say-in-Err-Parsing.result (one_look _ _ (subst (LooksNot c.args.connection.now c.backlog_told.new.connection)
+returns-in-Err-Parsing-clause-ok g c = on_ok c.say-in-Err-Parsing.result (one_look _ _ (subst (LooksNot c.args.connection.now c.find_backlog.new.connection)
     c.in-Err-Parsing.field-0-is c.in-Err-Parsing.ensures.err))
 
 pub returns-in-Err-Parsing-clause-err : goal.returns-in-Err-Parsing-clause-err
 returns-in-Err-Parsing-clause-err g c =
-    on_err c.say-in-Err-Parsing.result (ends_so _ _ (one_look _ _ (subst (LooksNot c.args.connection.now c.backlog_told.new.connection)
+    on_err c.say-in-Err-Parsing.result (ends_so _ _ (one_look _ _ (subst (LooksNot c.args.connection.now c.find_backlog.new.connection)
     c.in-Err-Parsing.field-0-is c.in-Err-Parsing.ensures.err)))
 
 pub returns-in-Err-clause-err : goal.returns-in-Err-clause-err

@@ -24,10 +24,10 @@ returns-in_err-made-clause-err g c =
     let settings = c.args.worker.now.settings in
     let w = stands c.args.worker.now c.args.lines.now.json (known_by c.args.lines.now.known) c.args.lines.now.log.batch.items
     (g.D.LogFile.seen c.args.lines.now.log.file) c.args.lines.now.log.len in
-    let y = stands c.any_round.new.worker c.any_round.new.lines.json (known_by c.any_round.new.lines.known) c.any_round.new.lines.log.batch.items
-    (g.D.LogFile.seen c.any_round.new.lines.log.file) c.any_round.new.lines.log.len in
+    let y = stands c.make_any_round.new.worker c.make_any_round.new.lines.json (known_by c.make_any_round.new.lines.known) c.make_any_round.new.lines.log.batch.items
+    (g.D.LogFile.seen c.make_any_round.new.lines.log.file) c.make_any_round.new.lines.log.len in
     on_err c.from_residual-in_err-made.result
-    (leads_stop settings c.args.connection.now c.look.new.connection c.any_round.new.connection w w y
+    (leads_stop settings c.args.connection.now c.look.new.connection c.make_any_round.new.connection w w y
     (leads_besides settings c.args.connection.now c.look.new.connection w c.in_ok-look.ensures.ok)
     c.in_err-made.ensures.err)
 
@@ -36,30 +36,30 @@ returns-in_err-count-clause-err g c =
     let settings = c.args.worker.now.settings in
     let w = stands c.args.worker.now c.args.lines.now.json (known_by c.args.lines.now.known) c.args.lines.now.log.batch.items
     (g.D.LogFile.seen c.args.lines.now.log.file) c.args.lines.now.log.len in
-    let y = stands c.any_round.new.worker c.any_round.new.lines.json (known_by c.any_round.new.lines.known) c.any_round.new.lines.log.batch.items
-    (g.D.LogFile.seen c.any_round.new.lines.log.file) c.any_round.new.lines.log.len in
+    let y = stands c.make_any_round.new.worker c.make_any_round.new.lines.json (known_by c.make_any_round.new.lines.known) c.make_any_round.new.lines.log.batch.items
+    (g.D.LogFile.seen c.make_any_round.new.lines.log.file) c.make_any_round.new.lines.log.len in
     on_err c.from_residual-in_err-count.result
-    (leads_stop settings c.args.connection.now c.any_round.new.connection c.count.new.connection w y y
-    (leads_both settings c.args.connection.now c.look.new.connection c.any_round.new.connection w w y
+    (leads_stop settings c.args.connection.now c.make_any_round.new.connection c.count.new.connection w y y
+    (leads_both settings c.args.connection.now c.look.new.connection c.make_any_round.new.connection w w y
     (leads_besides settings c.args.connection.now c.look.new.connection w c.in_ok-look.ensures.ok)
     c.in_ok-made.ensures.ok)
-    (leads_breaks settings c.any_round.new.connection c.count.new.connection y c.in_err-count.ensures.err))
+    (leads_breaks settings c.make_any_round.new.connection c.count.new.connection y c.in_err-count.ensures.err))
 
 pub returns-clause-ok : goal.returns-clause-ok
 returns-clause-ok g c =
     let settings = c.args.worker.now.settings in
     let w = stands c.args.worker.now c.args.lines.now.json (known_by c.args.lines.now.known) c.args.lines.now.log.batch.items
     (g.D.LogFile.seen c.args.lines.now.log.file) c.args.lines.now.log.len in
-    let y = stands c.any_round.new.worker c.any_round.new.lines.json (known_by c.any_round.new.lines.known) c.any_round.new.lines.log.batch.items
-    (g.D.LogFile.seen c.any_round.new.lines.log.file) c.any_round.new.lines.log.len in
-    leads_both settings c.args.connection.now c.any_round.new.connection c.count.new.connection w y y
-    (leads_both settings c.args.connection.now c.look.new.connection c.any_round.new.connection w w y
+    let y = stands c.make_any_round.new.worker c.make_any_round.new.lines.json (known_by c.make_any_round.new.lines.known) c.make_any_round.new.lines.log.batch.items
+    (g.D.LogFile.seen c.make_any_round.new.lines.log.file) c.make_any_round.new.lines.log.len in
+    leads_both settings c.args.connection.now c.make_any_round.new.connection c.count.new.connection w y y
+    (leads_both settings c.args.connection.now c.look.new.connection c.make_any_round.new.connection w w y
     (leads_besides settings c.args.connection.now c.look.new.connection w c.in_ok-look.ensures.ok)
     c.in_ok-made.ensures.ok)
-    (leads_besides settings c.any_round.new.connection c.count.new.connection y c.in_ok-count.ensures.ok)
+    (leads_besides settings c.make_any_round.new.connection c.count.new.connection y c.in_ok-count.ensures.ok)
 
 pub returns-clause-confirmed : goal.returns-clause-confirmed
 returns-clause-confirmed g c =
     confirmed_turn _ _ c.args.worker.now.settings c.args.wait c.args.connection.now c.look.new.connection
-    c.any_round.new.connection c.count.new.connection _ _ c.in_ok-made.made.round.asked c.in_ok-made.made.round.progress
+    c.make_any_round.new.connection c.count.new.connection _ _ c.in_ok-made.made.round.asked c.in_ok-made.made.round.progress
     c.in_ok-look.ensures.ok c.in_ok-made.ensures.confirmed c.in_ok-count.ensures.ok

@@ -23,7 +23,7 @@ returns-then-has_two-clause-ok g c =
     let two : is_some (two_in t) ≡ true = search rules in
     rw c.new.ensures.items
     (claim_of_rows t (string_bytes c.in_ok-next.next) (map (option_map sent_of) c.in_ok-next.rows.items)
-    (sent_all c.in_ok-rows_there.field-0) two c.in_ok-next.ensures.ok c.in_ok-rows_there.ensures.ok)
+    (sent_all c.in_ok-count_rows_there.field-0) two c.in_ok-next.ensures.ok c.in_ok-count_rows_there.ensures.ok)
 
 pub returns-in_err-next-2-clause-err : goal.returns-in_err-next-2-clause-err
 returns-in_err-next-2-clause-err g c =
@@ -37,5 +37,5 @@ returns-clause-ok g c =
     let t = g.S.Source.seen c.args.v in
     let three : is_some (two_in t) ≡ false = search rules in
     claim_of_ids t (string_bytes c.in_ok-next-2.next) (map (option_map sent_of) c.in_ok-next-2.rows.items)
-    (sent_all c.in_ok-rows_there-2.field-0) (map string_bytes c.in_ok-next-2.deleted.items) three
-    c.in_ok-next-2.ensures.ok c.in_ok-rows_there-2.ensures.ok
+    (sent_all c.in_ok-count_rows_there-2.field-0) (map string_bytes c.in_ok-next-2.deleted.items) three
+    c.in_ok-next-2.ensures.ok c.in_ok-count_rows_there-2.ensures.ok

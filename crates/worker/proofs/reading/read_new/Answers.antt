@@ -12,13 +12,13 @@ returns-in_err-entries-clause-err c =
 
 pub returns-in-None-clause-ok : goal.returns-in-None-clause-ok
 returns-in-None-clause-ok c =
-    let none = rw c.in-None.is at c.in_ok-nil_id.ensures in
+    let none = rw c.in-None.is at c.in_ok-find_nil_id.ensures in
     let all = rw c.deref.ensures.value at none in
     news_say c.args.key.now (tree c.args.value) (sent_all c.in_ok-entries.entries) c.in_ok-entries.ensures.ok
     (there_all (sent_all c.in_ok-entries.entries) (sym all))
 
 pub returns-in-Some-clause-err : goal.returns-in-Some-clause-err
 returns-in-Some-clause-err c =
-    let some = rw c.in-Some.is at c.in_ok-nil_id.ensures in
+    let some = rw c.in-Some.is at c.in_ok-find_nil_id.ensures in
     let first = rw c.deref.ensures.value at some in
     inr (c.in-Some.id, refl, (sent_all c.in_ok-entries.entries, c.in_ok-entries.ensures.ok, sym first))

@@ -11,11 +11,11 @@ returns-then-len-sent-clause-err c =
 pub returns-clause-ok : goal.returns-clause-ok
 returns-clause-ok c =
     let same : length c.args.members.items ≡ c.args.sent = omega (arith, c.args.members.ok.0) in
-    all_fine c.each_stands.result _ (answer_list (map answer c.args.members.items))
-    (as_many_replies c.args.sent c.args.members.items same) c.each_stands.ensures.ok
+    all_fine c.check_each.result _ (answer_list (map answer c.args.members.items))
+    (as_many_replies c.args.sent c.args.members.items same) c.check_each.ensures.ok
 
 pub returns-clause-err : goal.returns-clause-err
 returns-clause-err c =
     let same : length c.args.members.items ≡ c.args.sent = omega (arith, c.args.members.ok.0) in
-    first_is_told c.each_stands.result _ (answer_list (map answer c.args.members.items))
-    (as_many_replies c.args.sent c.args.members.items same) c.each_stands.ensures.err
+    first_is_told c.check_each.result _ (answer_list (map answer c.args.members.items))
+    (as_many_replies c.args.sent c.args.members.items same) c.check_each.ensures.err

@@ -13,6 +13,6 @@ returns-clause-ok c =
     let new = desk_of c.post_fields.new.desk in
     let same : c.as_str.result.now ≡ c.as_str-2.result.now = search rules in
     ok_too c.post_fields.result c.post_fields.ensures.ok (λ p.
-    posted_row dead w c.args.rows.now c.in-Some.field-0.now old new (rw c.in-Some.is at c.the_row.ensures)
+    posted_row dead w c.args.rows.now c.in-Some.field-0.now old new (rw c.in-Some.is at c.take_only_row.ensures)
     (sym c.as_str.ensures.value ∙ same ∙ c.as_str-2.ensures.value)
     (subst (λ ts. PostedFields dead w (map (λ (text : RawBytes). text.0.items) ts) old new) c.deref.ensures.value p))

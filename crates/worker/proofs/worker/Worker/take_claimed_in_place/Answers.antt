@@ -11,7 +11,7 @@ returns-in-Some-clause-taken g c =
       claimed = c.in-Some.found.claimed;
       deleted = c.in-Some.found.deleted_ids;
     }) in
-    rw c.in_answer_to.ensures
+    rw c.name_answer_error.ensures
     (value_taken g.H.Handler.with_verdict _ _ _ _ _ _ c.in-Some.found.len t c.take_found_claimed-outcome.result
     c.requires r.reply (c.take_found_claimed-outcome.ensures.taken t r.sent) refl
     c.take_found_claimed-outcome.ensures.group c.take_found_claimed-outcome.ensures.asked)

@@ -2,7 +2,7 @@ use Rattle.std.proofs.Common.{◌≡◌, ◌++◌, map, option_map, length}
 use Rattle.std.specs.Vec.Iter.{into_iter_items, into_iter_len}
 use Rattle.stream_in_place.specs.SentMeaning.{sent_of}
 use Rattle.stream_in_place.specs.SentReading.{there}
-use Rattle.stream_in_place.proofs.sent.rows_there.Given as goal
+use Rattle.stream_in_place.proofs.sent.count_rows_there.Given as goal
 
 abbrev pub invariant-loop-row : goal.invariant-loop-row
 invariant-loop-row l = record {

@@ -2,7 +2,7 @@ use Rattle.std.proofs.Common.{◌≡◌, map, length}
 use Rattle.std.specs.Vec.Iter.{into_iter_items, into_iter_len}
 use Rattle.redis_wire.specs.Reply.{answer, answer_list}
 use Rattle.worker_producer.specs.Replies.{not_standing}
-use Rattle.worker_producer.proofs.executed.each_stands.Given as goal
+use Rattle.worker_producer.proofs.executed.check_each.Given as goal
 
 abbrev pub invariant-loop-member : goal.invariant-loop-member
 invariant-loop-member l = record {

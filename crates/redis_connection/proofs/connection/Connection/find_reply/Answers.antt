@@ -3,7 +3,7 @@ use Rattle.std.proofs.lemmas.List.{with_items_is}
 use Rattle.redis_connection.specs.Link.{IsInPlace, Waits}
 use Rattle.redis_connection.specs.Seen.{seen}
 use Rattle.redis_connection.proofs.LinkLemmas.{stood, waited}
-use Rattle.redis_connection.proofs.connection.Connection.stand.Goals as goal
+use Rattle.redis_connection.proofs.connection.Connection.find_reply.Goals as goal
 
 pub returns-clause-ok : goal.returns-clause-ok
 returns-clause-ok g c =

@@ -1,7 +1,7 @@
 use Rattle.std.proofs.Common.{inl, inr, refl, subst, sym}
 use Rattle.worker.specs.DeadLetters.Besides.{OnlyLooks, nothing}
 use Rattle.worker.proofs.DeadLettersLemmas.BesidesLemmas.{looked, looked_not, one_look}
-use Rattle.stream_drain.proofs.drain.backlog_told.Goals as goal
+use Rattle.stream_drain.proofs.drain.find_backlog.Goals as goal
 
 pub returns-in_default-clause-ok : goal.returns-in_default-clause-ok
 returns-in_default-clause-ok g c = nothing c.args.connection.now

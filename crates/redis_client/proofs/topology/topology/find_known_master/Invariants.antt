@@ -2,7 +2,7 @@ use Rattle.std.proofs.Common.{◌≡◌, length, map}
 use Rattle.std.specs.List.{find}
 use Rattle.redis_client.specs.Topology.Topology.{is_known_master}
 use Rattle.redis_client.specs.Topology.TopologyMeaning.{node_meaning}
-use Rattle.redis_client.proofs.topology.topology.known_master.Given as goal
+use Rattle.redis_client.proofs.topology.topology.find_known_master.Given as goal
 
 -- the first is among those that are left
 abbrev pub invariant-loop-node : goal.invariant-loop-node

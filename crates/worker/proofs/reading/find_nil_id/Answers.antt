@@ -3,7 +3,7 @@ use Rattle.std.proofs.lemmas.List.{take_all}
 use Rattle.stream_in_place.specs.SentMeaning.{sent_of}
 use Rattle.worker.specs.Answers.{first_nil}
 use Rattle.worker.proofs.ReadLemmas.{rows_found, rows_more}
-use Rattle.worker.proofs.reading.nil_id.Goals as goal
+use Rattle.worker.proofs.reading.find_nil_id.Goals as goal
 
 pub loop-entry-preserved : goal.loop-entry-preserved
 loop-entry-preserved c =
