@@ -6,7 +6,7 @@ use Rattle.std.specs.Prelude.{OnOk, OnErr}
 use Rattle.std.proofs.lemmas.List.{flat_map_more}
 use Rattle.server_commands.specs.declared.answer.Reply.{Reply}
 use Rattle.server_commands.specs.Incoming.{command_at}
-use Rattle.server_commands.specs.Serving.{Turn, IsAnswered, turn_bytes, AreAnswered, Does, EndsAt, MayStep, Serves, GivesUp}
+use Rattle.server_commands.specs.Serving.{Turn, IsAnswered, turn_bytes, AreAnswered, Does, MayStep, Serves, GivesUp}
 use Rattle.server_commands.specs.Steps.{IsStep, State}
 
 -- nothing was done yet

@@ -68,13 +68,13 @@ abbrev pub GivesUp : List ℕ → List ℕ → List ℕ → State → State → 
 GivesUp bytes before after old new = (rest : List ℕ) × (between : State) × Does bytes rest before after old between
     × EndsAt rest between new
 
--- a client: what it sent and is no complete command yet, whether its connection has ended, and what the server knows of it
+-- a client: the bytes of an incomplete command, whether its connection has ended, and its session
 pub record Standing : Type 0 where
   pub unread : List ℕ
   pub has_ended : Bool
   pub session : SeenSession
 
--- the streams of a server, and what it knows of a client
+-- the streams of a server, and the session of a client
 abbrev pub state_of : List Seen → Standing → State
 state_of streams client = record { streams = streams; session = client.session }
 

@@ -12,7 +12,7 @@ use Rattle.server_commands.specs.declared.commands.Change.{Change}
 use Rattle.server_commands.specs.declared.commands.Plain.TheVariants as plain
 use Rattle.server_commands.specs.declared.session.Mode.TheVariants.{AtOnce, Queued}
 
--- the streams of a server, and what it knows of a connection
+-- the streams of a server, and one of its sessions
 pub record State : Type 0 where
   pub streams : List Seen
   pub session : SeenSession

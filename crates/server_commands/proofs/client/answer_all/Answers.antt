@@ -1,6 +1,5 @@
 use Rattle.std.proofs.Common.{map}
-use Rattle.server_commands.specs.Steps.{State}
-use Rattle.server_commands.proofs.ServingLemmas.{no_turns, one_more_turn}
+use Rattle.server_commands.proofs.ServingLemmas.{one_more_turn}
 use Rattle.server_commands.proofs.client.answer_all.Goals as goal
 
 pub commands-preserved : goal.commands-preserved
