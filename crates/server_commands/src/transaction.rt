@@ -6,7 +6,7 @@ ghost use Rattle.server_commands.specs.Server.{IsRefused, queued_reply};
 ghost use Rattle.server_commands.specs.Session.{forgotten, with_queued};
 ghost use Rattle.server_commands.specs.Streams.{seen_streams};
 ghost use Rattle.server_commands.specs.Watching.{is_touched};
-ghost use Rattle.server_commands.specs.declared.answer.Answer.TheVariants.{NilArray};
+ghost use Rattle.server_commands.specs.declared.answer.Answer.TheVariants.{NilArray, Okay};
 ghost use Rattle.server_commands.specs.declared.commands.Change.{Change};
 ghost use Rattle.server_commands.specs.declared.commands.Plain.TheVariants as plain;
 ghost use Rattle.server_commands.specs.declared.answer.Reply.TheVariants.{Done, Refused};
@@ -155,7 +155,9 @@ fn execute_step(
 
 /// `MULTI`
 fn begun(alloc: Global, session: &mut Session) -> Result<Reply, AllocError>
-    ensures { OnErr result (session.new ≡ session.old) }
+    ensures err { OnErr result (session.new ≡ session.old) }
+    ensures begins { session.old.mode ≡ AtOnce
+        → (result ≡ Ok (Done Okay)) × (session.new ≡ record session.old { mode = IsQueued }) }
 {
     if session.mode != Mode::AtOnce {
         return refused(alloc, NESTED);
