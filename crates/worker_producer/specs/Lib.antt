@@ -6,6 +6,7 @@ pub mod Errors
 pub mod Replies
 pub mod Unheard
 pub mod Machine
+pub mod Ahead
 pub mod Learnt
 pub mod Last
 pub mod Step

@@ -1,8 +1,11 @@
 //! Rounds that replicas confirm.
 ghost use Rattle.std.specs.Prelude.{◌≡◌, IfErr, IfOk, OnErr};
+ghost use Rattle.std.specs.Option.{ForSome};
+ghost use Rattle.worker_producer.specs.Ahead.{IsPrepared};
 ghost use Rattle.worker_producer.specs.Confirmed.{BreaksConfirmed, Confirms, ConfirmsNot, IsConfirmedRound};
 ghost use Rattle.worker_producer.specs.Machine.{idle, standing_of};
 
+use crate::ahead::Prepared;
 use crate::error::RunError;
 use crate::producer::Producer;
 use crate::source::Source;
@@ -66,6 +69,31 @@ impl Producer {
         ensures records { S.records source.new ≡ S.records source.old }
     {
         let asked = self.round(alloc, connection, source, count)?;
+        self.confirm_round(alloc, connection, asked, wait)?;
+        Ok(asked)
+    }
+
+    /// Makes one round, as `round_ahead` does, and then sends WAIT, as `round_confirmed` does.
+    pub fn round_confirmed_ahead<S: Source, R: Read + Drop, W: Write + Drop>(
+        &mut self,
+        alloc: Global,
+        connection: &mut Connection<R, W>,
+        source: &mut S,
+        count: u64,
+        wait: Option<Wait>,
+        ahead: &mut Option<Prepared>,
+    ) -> Result<Asked, ConfirmedError>
+        requires { ForSome ahead.old (IsPrepared self.old.settings (S.records source.old)) }
+        ensures ok { IfOk result (IsConfirmedRound wait self.old.settings (S.records source.old) count
+            connection.old connection.new (standing_of self.old) (standing_of self.new)) }
+        ensures err { IfErr result (BreaksConfirmed wait self.old.settings (S.records source.old) count
+            connection.old connection.new (standing_of self.old)) }
+        ensures err_standing { OnErr result (standing_of self.new ≡ idle) }
+        ensures settings { self.new.settings ≡ self.old.settings }
+        ensures records { S.records source.new ≡ S.records source.old }
+        ensures ahead { ForSome ahead.new (IsPrepared self.old.settings (S.records source.old)) }
+    {
+        let asked = self.round_ahead(alloc, connection, source, count, ahead)?;
         self.confirm_round(alloc, connection, asked, wait)?;
         Ok(asked)
     }

@@ -5,6 +5,7 @@
 //! for each, `EXEC`. After a failure the producer reads the last id from the server, and goes on after it.
 #![tactic(auto)]
 
+mod ahead;
 mod batch;
 mod confirmed;
 mod confirming;
@@ -14,11 +15,13 @@ mod kept;
 mod last_id;
 pub mod laws;
 mod producer;
+mod queued;
 mod session;
 mod settings;
 mod source;
 mod stage;
 
+pub use ahead::Prepared;
 pub use confirmed::ConfirmedError;
 pub use error::{FeedError, RequestError, RunError};
 pub use last_id::ask_last_id;

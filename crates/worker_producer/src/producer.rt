@@ -29,9 +29,9 @@ use std::mem;
 #[derive(Debug, Drop)]
 pub struct Producer {
     settings: Settings,
-    stage: Stage,
+    pub(crate) stage: Stage,
     /// The number of replies still expected.
-    coming: u64,
+    pub(crate) coming: u64,
 }
 
 impl Producer {

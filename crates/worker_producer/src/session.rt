@@ -1,11 +1,15 @@
 //! A producer over a connection.
-ghost use Rattle.std.specs.Prelude.{◌≡◌, ◌<◌, ◌↔◌, ℕ, Ok, IfErr, IfOk, IsTrue, OnOk, OnErr, false, true};
+ghost use Rattle.std.specs.Prelude.{◌≡◌, ◌<◌, ◌↔◌, [], ℕ, Ok, IfErr, IfOk, IsTrue, OnOk, OnErr, false, true};
+ghost use Rattle.std.specs.Option.{ForSome};
 ghost use Rattle.redis_connection.specs.Passing.{AwaitsAnswer};
-ghost use Rattle.worker_producer.specs.Machine.{idle, standing_of};
+ghost use Rattle.worker_producer.specs.Ahead.{IsPrepared};
+ghost use Rattle.worker_producer.specs.Machine.{Asks, AsksNone, idle, standing_of};
 ghost use Rattle.worker_producer.specs.Session.{BeginsAsLine, Breaks, Broke, FailsToHear, HearsAll, HearsOne, IsRound, Ran, Unheard};
 
-use crate::error::RunError;
+use crate::ahead::Prepared;
+use crate::error::{RequestError, RunError};
 use crate::producer::Producer;
+use crate::queued::receive_in_place;
 use crate::source::Source;
 use crate::stage::Asked;
 use redis_connection::Connection;
@@ -88,7 +92,7 @@ impl Producer {
             connection.old connection.new (standing_of self.old) e) }
         ensures settings { self.new.settings ≡ self.old.settings }
     {
-        match connection.receive_in_place(alloc) {
+        match receive_in_place(alloc, connection) {
             Ok(len) => {
                 if !is_line(connection.received(len)) {
                     return Ok(false);
@@ -146,6 +150,87 @@ impl Producer {
         self.announce_next(alloc, source);
         self.take_replies(alloc, connection, count)?;
         Ok(asked)
+    }
+
+    /// Makes one round of `round_ahead`. An error leaves the producer as it is.
+    fn try_round_ahead<S: Source, R: Read + Drop, W: Write + Drop>(
+        &mut self,
+        alloc: Global,
+        connection: &mut Connection<R, W>,
+        source: &mut S,
+        count: u64,
+        ahead: &mut Option<Prepared>,
+    ) -> Result<Asked, RunError>
+        requires { ForSome ahead.old (IsPrepared self.old.settings (S.records source.old)) }
+        ensures ok { IfOk result (IsRound self.old.settings (S.records source.old) count
+            connection.old connection.new (standing_of self.old) (standing_of self.new)) }
+        ensures err { IfErr result (Breaks self.old.settings (S.records source.old) count
+            connection.old connection.new (standing_of self.old)) }
+        ensures settings { self.new.settings ≡ self.old.settings }
+        ensures records { S.records source.new ≡ S.records source.old }
+        ensures ahead { ForSome ahead.new (IsPrepared self.old.settings (S.records source.old)) }
+    {
+        let (bytes, asked) = self.request_ahead(alloc, source, ahead.take())?;
+        if let Err(error) = connection.send_bytes(&bytes) {
+            return Err(RunError::Send(error));
+        }
+        *ahead = self.prepare_next(alloc, source);
+        self.take_replies(alloc, connection, count)?;
+        Ok(asked)
+    }
+
+    /// The bytes to send next: those that were prepared, if they are the next ones.
+    fn request_ahead<S: Source>(
+        &mut self,
+        alloc: Global,
+        source: &mut S,
+        ahead: Option<Prepared>,
+    ) -> Result<(Vec<u8>, Asked), RequestError>
+        requires { ForSome ahead (IsPrepared self.old.settings (S.records source.old)) }
+        ensures ok { IfOk result (λ r. Asks self.old.settings (S.records source.old) [] r.0.items
+            (standing_of self.old) (standing_of self.new) r.1) }
+        ensures err { IfErr result (AsksNone self.old.settings (S.records source.old)
+            (standing_of self.old)) }
+        ensures settings { self.new.settings ≡ self.old.settings }
+        ensures records { S.records source.new ≡ S.records source.old }
+    {
+        if let Some(prepared) = ahead {
+            if let Some(request) = self.take_prepared(prepared) {
+                return Ok(request);
+            }
+        }
+        let mut bytes = Vec::new(alloc);
+        let asked = self.request(alloc, &mut bytes, source)?;
+        Ok((bytes, asked))
+    }
+
+    /// Makes one round, as `round` does, and prepares the next batch while this one is on its way. `ahead` has what
+    /// was prepared for these settings and this source, and is `None` at first.
+    pub fn round_ahead<S: Source, R: Read + Drop, W: Write + Drop>(
+        &mut self,
+        alloc: Global,
+        connection: &mut Connection<R, W>,
+        source: &mut S,
+        count: u64,
+        ahead: &mut Option<Prepared>,
+    ) -> Result<Asked, RunError>
+        requires { ForSome ahead.old (IsPrepared self.old.settings (S.records source.old)) }
+        ensures ok { IfOk result (IsRound self.old.settings (S.records source.old) count
+            connection.old connection.new (standing_of self.old) (standing_of self.new)) }
+        ensures err { IfErr result (Breaks self.old.settings (S.records source.old) count
+            connection.old connection.new (standing_of self.old)) }
+        ensures err_standing { OnErr result (standing_of self.new ≡ idle) }
+        ensures settings { self.new.settings ≡ self.old.settings }
+        ensures records { S.records source.new ≡ S.records source.old }
+        ensures ahead { ForSome ahead.new (IsPrepared self.old.settings (S.records source.old)) }
+    {
+        match self.try_round_ahead(alloc, connection, source, count, ahead) {
+            Ok(asked) => Ok(asked),
+            Err(error) => {
+                self.disconnected();
+                Err(error)
+            }
+        }
     }
 
     /// Makes one round of `run`: it sends commands, and takes all replies. It sends `Nothing` if all records are added.
