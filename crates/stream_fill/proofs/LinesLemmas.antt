@@ -1,12 +1,9 @@
 -- The records of lines, and the places that a file of lines stores.
 use Rattle.std.proofs.Common.{◌≡◌, ◌⊎◌, ◌+◌, ◌-◌, inl, inr, min, ℕ, zero, suc, List, [], ◌∷◌, ◌++◌, All, length, map}
 use Rattle.std.proofs.Common.{take, drop, slice_get, Option, Some, None, IfSome, refl, sym, ◌∙◌, ap, subst, arith}
-use Rattle.std.proofs.Math.Logic.{∥∥₁_elim}
-use Rattle.std.proofs.Props.{props}
 use Rattle.std.proofs.lemmas.Bool.{cases_lt}
 use Rattle.std.proofs.lemmas.List.{drop-map, length-drop, take-map, take_all}
 use Rattle.std.proofs.lemmas.List.Elements.{All-append}
-use Rattle.std.specs.Coded.{×_prop, Unit-prop}
 use Rattle.std.specs.Option.{ForSome}
 use Rattle.worker_journal.specs.LastLines.{lines_of}
 use Rattle.worker_producer.specs.Records.{Fields, fields_of}
@@ -91,18 +88,3 @@ read_as (forms.Text name) (Some bytes) behind most rs read =
     let lines = lines_of bytes in
     told (forms.Text name) name.items (λ line r is. is) (take most (drop behind lines)) rs (read bytes refl)
     ∙ sym (ap (take most) (drop-map record_of_line behind lines) ∙ take-map record_of_line most (drop behind lines))
-
--- ---- a record of a line is one in one way
-
-record_prop : (form : Form) (l : List ℕ) (r : Record) → IsProp (IsRecordOf form l r)
-record_prop forms.Json l r = hlevel props
-record_prop (forms.Text name) l r = hlevel props
-
-records_prop : (form : Form) (ls : List (List ℕ)) (rs : List Record) → IsProp (AreRecordsOf form ls rs)
-records_prop form [] [] = Unit-prop
-records_prop form [] (r ∷ rs) = λ none other. absurd none
-records_prop form (l ∷ ls) [] = λ none other. absurd none
-records_prop form (l ∷ ls) (r ∷ rs) = ×_prop (record_prop form l r) (records_prop form ls rs)
-
-pub are_records : (form : Form) (ls : List (List ℕ)) (rs : List Record) → ∥ AreRecordsOf form ls rs ∥₁ → AreRecordsOf form ls rs
-are_records form ls rs are = ∥∥₁_elim are (records_prop form ls rs) (λ a. a)

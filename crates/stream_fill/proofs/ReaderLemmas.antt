@@ -4,7 +4,7 @@ use Rattle.std.proofs.Common.{take, drop, slice_get, Contains, Some, refl, sym, 
 use Rattle.std.proofs.Common.{append_assoc, append-nil}
 use Rattle.std.proofs.lemmas.Bool.{cases_eq}
 use Rattle.std.proofs.lemmas.Bool.Decides.{nat_tests}
-use Rattle.std.proofs.lemmas.List.{drop-append-le, drop_all, drop-drop, drop_at, length-append, length-drop, take-append-drop, take_all, take_at}
+use Rattle.std.proofs.lemmas.List.{drop-append-le, drop_all, drop-drop, drop_at, length-append, length-drop, take-append-drop, take_at}
 use Rattle.worker_journal.specs.LastLines.{before_first, lines_of}
 use Rattle.stream_fill.specs.Placed.{BeginsWith, HasLines, IsFront, IsPlace, StartsWithLine, torn_from, torn_of}
 use Rattle.stream_fill.specs.declared.line_reader.Place.{Place}
@@ -235,20 +235,3 @@ line_there bytes line rest is none =
       within = let l : length bytes ≡ length (line ++ 10 ∷ rest) = ap length is in omega (arith, l, length-append line (10 ∷ rest));
       no_end = λ in_it. none (subst (λ (xs : List ℕ). Contains xs 10) first in_it);
     }
-
--- bytes were read after those of a buffer
-pub read_there : (old now piece : List ℕ) (len count : ℕ) → len ≡ length old → now ≡ take (len + count) (old ++ piece)
-    → now ≡ old ++ take count piece
-read_there old now piece len count l is =
-    is ∙ ap (λ (k : ℕ). take (k + count) (old ++ piece)) l ∙ take_behind old piece count
-  where
-    take_behind : (xs ys : List ℕ) (k : ℕ) → take (length xs + k) (xs ++ ys) ≡ xs ++ take k ys
-    take_behind [] ys k = ap (λ (n : ℕ). take n ys) (let e : 0 + k ≡ k = omega arith in e)
-    take_behind (x ∷ xs) ys k = ap (λ (n : ℕ). take n (x ∷ (xs ++ ys))) (let e : suc (length xs) + k ≡ suc (length xs + k) = omega arith in e)
-        ∙ ap (λ (zs : List ℕ). x ∷ zs) (take_behind xs ys k)
-
--- a buffer with room after its bytes
-pub room_after : (old rest now : List ℕ) (n len : ℕ) → now ≡ take n old ++ rest → length old ≤ n → len ≡ length old
-    → take len now ≡ old
-room_after old rest now n len is le l =
-    ap (take len) (is ∙ ap (λ (xs : List ℕ). xs ++ rest) (take_all n old le)) ∙ take_at old rest len (sym l)

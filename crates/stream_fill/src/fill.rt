@@ -50,8 +50,9 @@ pub fn fill<S: Source, R: Read + Drop, W: Write + Drop>(
     ensures records { S.records source.new ≡ S.records source.old }
 {
     let mut producer = Producer::new(settings);
+    let mut ahead = None;
     for _round in 0..u64::MAX {
-        match producer.round_confirmed(alloc, connection, source, count, wait)? {
+        match producer.round_confirmed_ahead(alloc, connection, source, count, wait, &mut ahead)? {
             Asked::Nothing => return Ok(()),
             asked => counts.take(asked, producer.stage()),
         }

@@ -32,6 +32,8 @@ pub struct LineReader<F: ByteFile + Drop> {
     begin: usize,
     /// The place after those.
     place: Place,
+    /// Room for the bytes of the next read.
+    piece: Vec<u8>,
     ghost within: { begin ≤ length buffer.items },
     ghost front: { ForSome (F.bytes file) (λ all. IsFront (drop begin buffer.items) (drop place.offset all)) },
     ghost is_place: { ForSome (F.bytes file) (λ all. IsPlace all place) },
@@ -51,6 +53,7 @@ impl<F: ByteFile + Drop> LineReader<F> {
                 number: 0,
                 offset: 0,
             },
+            piece: Vec::new(alloc),
         }
     }
 
@@ -155,7 +158,7 @@ impl<F: ByteFile + Drop> LineReader<F> {
         let room = PIECE.max(waiting.len());
         let mut buffer = Vec::with_capacity(self.alloc, waiting.len().saturating_add(room))?;
         buffer.extend_from_slice(waiting)?;
-        match read_after(&self.file, &mut buffer, offset, room) {
+        match read_after(&self.file, &mut self.piece, &mut buffer, offset, room) {
             Ok(count) => {
                 self.buffer = buffer;
                 self.begin = 0;
@@ -187,9 +190,11 @@ impl<F: ByteFile + Drop> LineReader<F> {
     }
 }
 
-/// Appends the bytes of the file from this offset on, at most `room` of them, and returns their number.
+/// Appends the bytes of the file from this offset on, and returns their number. They are read into `piece`, which grows
+/// to `room` bytes.
 fn read_after<F: ByteFile>(
     file: &F,
+    piece: &mut Vec<u8>,
     buffer: &mut Vec<u8>,
     offset: u64,
     room: usize,
@@ -201,10 +206,11 @@ fn read_after<F: ByteFile>(
         length all ≤ offset)) }
     ensures none { IfOk result (λ count. count ≡ 0 → buffer.new.items ≡ buffer.old.items) }
 {
-    let len = buffer.len();
-    buffer.resize(len.saturating_add(room), 0)?;
-    let count = file.read_at(&mut buffer[len..], offset)?;
-    buffer.truncate(len + count);
+    if piece.len() < room {
+        piece.resize(room, 0)?;
+    }
+    let count = file.read_at(piece, offset)?;
+    buffer.extend_from_slice(&piece[..count])?;
     Ok(count)
 }
 

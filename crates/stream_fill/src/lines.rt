@@ -28,17 +28,6 @@ pub enum Form {
     Text(Vec<u8>),
 }
 
-/// Records that were read ahead.
-#[derive(Drop)]
-struct Ahead {
-    /// How many records are before them.
-    behind: u64,
-    /// How many were asked for.
-    most: usize,
-    records: Vec<Record>,
-    ghost within: { length records.items ≤ most },
-}
-
 /// A file of lines, each of which is a record. Lines that are appended after it was opened are not read.
 #[derive(Drop)]
 pub struct Lines<F: ByteFile + Drop> {
@@ -49,8 +38,6 @@ pub struct Lines<F: ByteFile + Drop> {
     /// The line that was read last; its buffer is reused for the next one.
     line: Vec<u8>,
     scratch: Scratch,
-    /// The records that were read ahead, if any.
-    ahead: Option<Ahead>,
     /// How many lines there are.
     pub count: u64,
     /// Whether a line without a line end is after them.
@@ -58,8 +45,6 @@ pub struct Lines<F: ByteFile + Drop> {
     /// The error of the last read that failed.
     pub fault: Option<Error>,
     ghost placed: { ForSome (F.bytes reader.file) (λ all. All (IsPlace all) places.items) },
-    ghost ahead_read: { ForSome (F.bytes reader.file) (λ all. ForSome ahead (λ a.
-        ∥ AreRecordsOf form (take a.most (drop a.behind (lines_of all))) a.records.items ∥₁)) },
     ghost counted: { ForSome (F.bytes reader.file) (λ all. count ≡ length (lines_of all)) },
     ghost torn: { ForSome (F.bytes reader.file) (λ all. IsTrue is_torn ↔ (torn_of all ≢ [])) },
 }
@@ -94,7 +79,6 @@ impl<F: ByteFile + Drop> Lines<F> {
             places,
             line: Vec::new(alloc),
             scratch: Scratch::new(alloc),
-            ahead: None,
             count,
             is_torn,
             fault: None,
@@ -131,28 +115,16 @@ impl<F: ByteFile + Drop> Source for Lines<F> {
         ensures same { records_of self.new.form (F.bytes self.new.reader.file)
             ≡ records_of self.old.form (F.bytes self.old.reader.file) }
     {
-        match self.ahead.take() {
-            Some(ahead) if ahead.behind == behind && ahead.most == most => Ok(ahead.records),
-            _ => match self.read_from(alloc, behind, most) {
-                Ok(records) => Ok(records),
-                Err(fault) => {
-                    self.fault = Some(fault);
-                    Err(NotRead)
-                }
-            },
+        match self.read_from(alloc, behind, most) {
+            Ok(records) => Ok(records),
+            Err(fault) => {
+                self.fault = Some(fault);
+                Err(NotRead)
+            }
         }
     }
 
-    fn read_ahead(&mut self, alloc: Global, behind: u64, most: usize) {
-        self.ahead = match self.read_from(alloc, behind, most) {
-            Ok(records) => Some(Ahead {
-                behind,
-                most,
-                records,
-            }),
-            Err(_fault) => None,
-        };
-    }
+    fn read_ahead(&mut self, _alloc: Global, _behind: u64, _most: usize) {}
 }
 
 /// Passes over all lines, and returns places.

@@ -12,7 +12,6 @@ invariant_of-self g c =
     let now = c.args.self.now in
     let same = sym c.seek_line.ensures.file in record {
       placed = λ all is. now.placed all (same ∙ is);
-      ahead_read = λ all is. now.ahead_read all (same ∙ is);
       counted = λ all is. now.counted all (same ∙ is);
       torn = λ all is. now.torn all (same ∙ is);
     }
@@ -22,7 +21,6 @@ invariant_of-self-2 g c =
     let now = c.args.self.now in
     let same = sym (c.read_records.ensures.file ∙ c.seek_line.ensures.file) in record {
       placed = λ all is. now.placed all (same ∙ is);
-      ahead_read = λ all is. now.ahead_read all (same ∙ is);
       counted = λ all is. now.counted all (same ∙ is);
       torn = λ all is. now.torn all (same ∙ is);
     }
