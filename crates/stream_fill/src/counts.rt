@@ -2,7 +2,7 @@
 ghost use Rattle.std.specs.Prelude.{◌≡◌, ℕ};
 
 use std::fmt;
-use worker_producer::{Asked, Stage};
+use worker_producer::{Asked, Progress, Stage};
 
 /// Counts of the records.
 #[derive(Clone, Copy)]
@@ -39,6 +39,12 @@ impl Counts {
             Asked::Records => self.batches = self.batches.saturating_add(1),
             Asked::Nothing => {}
         }
+    }
+}
+
+impl Progress for Counts {
+    fn count(&mut self, asked: Asked, stage: Stage) {
+        self.take(asked, stage);
     }
 }
 

@@ -23,7 +23,6 @@ ghost use Rattle.worker_producer.specs.Confirmed.{FinishedConfirmed};
 
 mod byte_file;
 mod counts;
-mod fill;
 mod json_records;
 mod kept_base;
 mod line_reader;
@@ -33,7 +32,6 @@ mod split;
 
 use crate::byte_file::ByteFile;
 use crate::counts::Counts;
-use crate::fill::{FillError, fill};
 use crate::kept_base::{BaseError, find_base};
 use crate::lines::Lines;
 use crate::options::{Options, options_of};
@@ -46,7 +44,9 @@ use std::io::{ErrorKind, Read, Write};
 use std::process::ExitCode;
 use std::{env, io};
 use worker_journal::{LogError, SystemFile};
-use worker_producer::{ConfirmedError, FeedError, RequestError, RunError, Settings, Source};
+use worker_producer::{
+    ConfirmedError, FeedError, FillError, RequestError, RunError, Settings, Source, fill,
+};
 
 fn main(rt: HostRuntime) -> Result<ExitCode> {
     let words = read_arguments(&rt)?;

@@ -7,6 +7,7 @@ pub mod Replies
 pub mod Unheard
 pub mod Machine
 pub mod Ahead
+pub mod Filled
 pub mod Learnt
 pub mod Last
 pub mod Step

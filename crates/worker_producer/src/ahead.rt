@@ -12,7 +12,7 @@ use std::alloc::Global;
 
 /// The commands that a producer sends once it knows that `known` records are added, and its state after them.
 #[derive(Debug, Drop)]
-pub struct Prepared {
+pub(crate) struct Prepared {
     known: u64,
     bytes: Vec<u8>,
     asked: Asked,

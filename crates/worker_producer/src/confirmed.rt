@@ -74,7 +74,7 @@ impl Producer {
     }
 
     /// Makes one round, as `round_ahead` does, and then sends WAIT, as `round_confirmed` does.
-    pub fn round_confirmed_ahead<S: Source, R: Read + Drop, W: Write + Drop>(
+    pub(crate) fn round_confirmed_ahead<S: Source, R: Read + Drop, W: Write + Drop>(
         &mut self,
         alloc: Global,
         connection: &mut Connection<R, W>,

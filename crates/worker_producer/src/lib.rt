@@ -11,6 +11,7 @@ mod confirmed;
 mod confirming;
 mod error;
 mod executed;
+mod fill;
 mod kept;
 mod last_id;
 pub mod laws;
@@ -21,9 +22,9 @@ mod settings;
 mod source;
 mod stage;
 
-pub use ahead::Prepared;
 pub use confirmed::ConfirmedError;
 pub use error::{FeedError, RequestError, RunError};
+pub use fill::{FillError, Progress, fill};
 pub use last_id::ask_last_id;
 pub use producer::Producer;
 pub use settings::{Settings, SettingsError};

@@ -206,7 +206,7 @@ impl Producer {
 
     /// Makes one round, as `round` does, and prepares the next batch while this one is on its way. `ahead` has what
     /// was prepared for these settings and this source, and is `None` at first.
-    pub fn round_ahead<S: Source, R: Read + Drop, W: Write + Drop>(
+    pub(crate) fn round_ahead<S: Source, R: Read + Drop, W: Write + Drop>(
         &mut self,
         alloc: Global,
         connection: &mut Connection<R, W>,
