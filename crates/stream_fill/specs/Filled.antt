@@ -5,7 +5,7 @@ use Rattle.redis_connection.specs.declared.wait.Wait.{Wait}
 use Rattle.worker_producer.specs.Confirmed.{FinishedConfirmed}
 use Rattle.worker_producer.specs.Filled.{Fails}
 use Rattle.worker_producer.specs.Records.{Fields}
-use Rattle.worker_producer.specs.declared.fill.FillError.{FillError}
+use Rattle.worker_producer.specs.declared.filling.FillError.{FillError}
 use Rattle.worker_producer.specs.declared.settings.Settings.{Settings}
 
 -- The session did not end with all records. Or it did, and then the counts could not be shown, or a last line has no

@@ -22,7 +22,6 @@ ghost use Rattle.stream_fill.specs.Filled.{FillsNot};
 ghost use Rattle.worker_producer.specs.Confirmed.{FinishedConfirmed};
 
 mod byte_file;
-mod counts;
 mod json_records;
 mod kept_base;
 mod line_reader;
@@ -31,7 +30,6 @@ mod options;
 mod split;
 
 use crate::byte_file::ByteFile;
-use crate::counts::Counts;
 use crate::kept_base::{BaseError, find_base};
 use crate::lines::Lines;
 use crate::options::{Options, options_of};
@@ -45,7 +43,7 @@ use std::process::ExitCode;
 use std::{env, io};
 use worker_journal::{LogError, SystemFile};
 use worker_producer::{
-    ConfirmedError, FeedError, FillError, RequestError, RunError, Settings, Source, fill,
+    ConfirmedError, Counts, FeedError, FillError, RequestError, RunError, Settings, Source, fill,
 };
 
 fn main(rt: HostRuntime) -> Result<ExitCode> {

@@ -5,8 +5,8 @@ use Rattle.redis_connection.specs.declared.wait.Wait.{Wait}
 use Rattle.worker_producer.specs.Confirmed.{BrokeConfirmed, ConfirmedRounds}
 use Rattle.worker_producer.specs.Machine.{Standing, idle}
 use Rattle.worker_producer.specs.Records.{Fields}
-use Rattle.worker_producer.specs.declared.fill.FillError.{FillError}
-use Rattle.worker_producer.specs.declared.fill.FillError.TheVariants as causes
+use Rattle.worker_producer.specs.declared.filling.FillError.{FillError}
+use Rattle.worker_producer.specs.declared.filling.FillError.TheVariants as causes
 use Rattle.worker_producer.specs.declared.settings.Settings.{Settings}
 
 -- a round broke off or was not confirmed, with this error; or the number of rounds is at its maximum

@@ -8,7 +8,7 @@ returns-clause-err g c =
     let posts = c.in_ok-post_all.ensures.ok in
     err_too c.deliver.result c.deliver.ensures.err (λ some.
     delivered_some (claimer_of c.args.self.now c.args.min_idle) (letter_names c.args.self.now)
-    (names_of c.in_ok-make_queue.desk) (names_of c.post_all.new.desk) c.args.entries.now posts.0 c.args.connection.now
-    c.post_all.new.connection c.deliver.new.connection (desk_of c.in_ok-make_queue.desk) (desk_of c.post_all.new.desk)
-    (desk_of c.deliver.new.desk) c.in_ok-make_queue.ensures.names c.in_ok-make_queue.ensures.waits c.in_ok-post_all.ensures.names
+    (names_of c.in_ok-desk.desk) (names_of c.post_all.new.desk) c.args.entries.now posts.0 c.args.connection.now
+    c.post_all.new.connection c.deliver.new.connection (desk_of c.in_ok-desk.desk) (desk_of c.post_all.new.desk)
+    (desk_of c.deliver.new.desk) c.in_ok-desk.ensures.names c.in_ok-desk.ensures.waits c.in_ok-post_all.ensures.names
     posts.1 some)

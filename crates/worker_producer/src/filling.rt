@@ -4,20 +4,15 @@ ghost use Rattle.worker_producer.specs.Confirmed.{FinishedConfirmed};
 ghost use Rattle.worker_producer.specs.Filled.{Fails};
 
 use crate::confirmed::ConfirmedError;
+use crate::counts::Counts;
 use crate::producer::Producer;
 use crate::settings::Settings;
 use crate::source::Source;
-use crate::stage::{Asked, Stage};
+use crate::stage::Asked;
 use redis_connection::{Connection, Wait};
 use std::alloc::Global;
 use std::io::{Read, Write};
 use thiserror::Error;
-
-/// What is told of each round of `fill`, to count them or to show progress.
-pub trait Progress {
-    /// A round asked for this, and the producer is in this stage after it.
-    fn count(&mut self, asked: Asked, stage: Stage);
-}
 
 /// Why not all records were added.
 #[derive(Debug, Drop, Error)]
@@ -32,7 +27,7 @@ pub enum FillError {
 
 impl From<ConfirmedError> for FillError {
     ghost use Rattle.std.specs.Prelude.{◌≡◌};
-    ghost use Rattle.worker_producer.specs.declared.fill.FillError.TheVariants as causes;
+    ghost use Rattle.worker_producer.specs.declared.filling.FillError.TheVariants as causes;
 
     ghost from_gives = { λ r e. e ≡ causes.Round r };
 
@@ -44,14 +39,14 @@ impl From<ConfirmedError> for FillError {
 /// Makes rounds until one sends nothing, since all records are added, or until one breaks off. It begins by reading the
 /// last id. `count` is how many records there are. With `wait` each round is confirmed by replicas. While a batch is on
 /// its way, the next one is prepared.
-pub fn fill<S: Source, R: Read + Drop, W: Write + Drop, P: Progress>(
+pub fn fill<S: Source, R: Read + Drop, W: Write + Drop>(
     alloc: Global,
     connection: &mut Connection<R, W>,
     settings: Settings,
     source: &mut S,
     count: u64,
     wait: Option<Wait>,
-    progress: &mut P,
+    counts: &mut Counts,
 ) -> Result<(), FillError>
     ensures ok { OnOk result (FinishedConfirmed wait settings (S.records source.old) count connection.old
         connection.new) }
@@ -64,7 +59,7 @@ pub fn fill<S: Source, R: Read + Drop, W: Write + Drop, P: Progress>(
     for _round in 0..u64::MAX {
         match producer.round_confirmed_ahead(alloc, connection, source, count, wait, &mut ahead)? {
             Asked::Nothing => return Ok(()),
-            asked => progress.count(asked, producer.stage()),
+            asked => counts.take(asked, producer.stage()),
         }
     }
     Err(FillError::NoTurnLeft)

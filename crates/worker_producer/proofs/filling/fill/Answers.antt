@@ -5,7 +5,7 @@ use Rattle.worker_producer.specs.Confirmed.{ConfirmedRounds}
 use Rattle.worker_producer.specs.Machine.{idle, standing_of}
 use Rattle.worker_producer.specs.Records.{Fields}
 use Rattle.worker_producer.specs.declared.settings.Settings.{Settings}
-use Rattle.worker_producer.proofs.fill.fill.Goals as goal
+use Rattle.worker_producer.proofs.filling.fill.Goals as goal
 
 pub returns-clause-err : goal.returns-clause-err
 returns-clause-err g c =

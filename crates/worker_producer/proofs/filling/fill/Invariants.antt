@@ -3,7 +3,7 @@ use Rattle.std.specs.Option.{ForSome}
 use Rattle.worker_producer.specs.Ahead.{IsPrepared}
 use Rattle.worker_producer.specs.Confirmed.{ConfirmedRounds}
 use Rattle.worker_producer.specs.Machine.{idle, standing_of}
-use Rattle.worker_producer.proofs.fill.fill.Given as goal
+use Rattle.worker_producer.proofs.filling.fill.Given as goal
 
 -- so many rounds were made
 abbrev pub invariant-loop-round : goal.invariant-loop-round

@@ -1,10 +1,10 @@
-//! The counts of the program.
+//! What `fill` counts.
 ghost use Rattle.std.specs.Prelude.{◌≡◌, ℕ};
 
+use crate::stage::{Asked, Stage};
 use std::fmt;
-use worker_producer::{Asked, Progress, Stage};
 
-/// Counts of the records.
+/// Counts of the records and batches of `fill`, as a line of text.
 #[derive(Clone, Copy)]
 pub struct Counts {
     /// How many records are in the stream.
@@ -39,12 +39,6 @@ impl Counts {
             Asked::Records => self.batches = self.batches.saturating_add(1),
             Asked::Nothing => {}
         }
-    }
-}
-
-impl Progress for Counts {
-    fn count(&mut self, asked: Asked, stage: Stage) {
-        self.take(asked, stage);
     }
 }
 
