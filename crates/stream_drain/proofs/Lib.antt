@@ -19,3 +19,4 @@ pub mod ReachLemmas
 pub mod FailoverLemmas
 pub mod TurnLemmas
 pub mod ProgramLemmas
+pub mod SaidLemmas

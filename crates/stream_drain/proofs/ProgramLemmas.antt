@@ -1,12 +1,15 @@
 -- A run of the program, by its outcome.
-use Rattle.std.proofs.Common.{Err, IfSome, Ok, OnErr, OnOk, Option, Result, refl}
+use Rattle.std.proofs.Common.{◌≡◌, ◌<◌, ◌⊎◌, ℕ, Err, IfOk, IfSome, IsOk, IsTrue, List, Ok, OnErr, OnOk, Option, Result, arith, false, inl, inr, refl, true}
 use Rattle.model_workers.specs.Loops.Loop.{Drains, Loops, Stops}
 use Rattle.redis_connection.specs.Link.{Link}
 use Rattle.redis_connection.specs.declared.wait.Wait.{Wait}
 use Rattle.worker.specs.Session.{Standing}
 use Rattle.worker.specs.declared.state.Settings.{Settings}
 use Rattle.stream_drain.specs.Lived.{Leads}
-use Rattle.stream_drain.specs.Program.{EndsSo, IsRun}
+use Rattle.stream_drain.specs.Options.{AreOptionsOf}
+use Rattle.stream_drain.specs.Program.{EndsAsSaid, EndsBy, EndsSo, IsRun, RunsAsSaid, RunsBy, StartsIn, settings_with}
+use Rattle.stream_drain.specs.Words.{Text}
+use Rattle.stream_drain.specs.declared.options.Options.{Options}
 use Rattle.stream_drain.specs.Turn.{EachIsConfirmed}
 use Rattle.stream_drain.specs.Written.{Written}
 use Rattle.stream_drain.proofs.FiledLemmas.{with_loops, with_stops}
@@ -42,3 +45,74 @@ module _ {A E : Type 0} (r : Result A E) (settings : Settings) (wait : Option Wa
         | Ok a ↦ λ loops stops. went_so (with_loops settings old new w x loops)
         | Err e ↦ λ loops stops. went_so (with_stops settings old new w x stops)
       ]
+
+-- a run by options, from where its lines began
+module _ {A E D : Type 0} (r : Result A E) (opened : Text → D → Type 0) (o : Options) (old new : Link) (w : Written)
+    (starts : StartsIn opened o w) where
+  pub ends_by : IfOk r (λ a. IsTrue o.until_empty) → OnOk r (EndsSo (settings_with o.dead o.settings) o.wait w old new)
+      → OnOk r (EndsBy opened o old new)
+  ends_by = elim r as (λ r. IfOk r (λ a. IsTrue o.until_empty)
+      → OnOk r (EndsSo (settings_with o.dead o.settings) o.wait w old new) → OnOk r (EndsBy opened o old new)) [
+        | Ok a ↦ λ asked ends. record { lines = w; starts = starts; asked = asked; ends = ends }
+        | Err e ↦ λ asked ends. tt
+      ]
+
+  pub runs_by : OnErr r ((new ≡ old) ⊎ IsRun (settings_with o.dead o.settings) Drains w old new)
+      → OnErr r ((new ≡ old) ⊎ RunsBy opened o old new)
+  runs_by = elim r as (λ r. OnErr r ((new ≡ old) ⊎ IsRun (settings_with o.dead o.settings) Drains w old new)
+      → OnErr r ((new ≡ old) ⊎ RunsBy opened o old new)) [
+        | Ok a ↦ λ ran. tt
+        | Err e ↦ elim [ inl same ↦ inl same | inr ran ↦ inr (record { lines = w; starts = starts; ran = ran }) ]
+      ]
+
+-- the options are those of the words
+pub as_said : {A E D : Type 0} (r : Result A E) (opened : Text → D → Type 0) (words : List Text) (o : Options)
+    (old new : Link) → AreOptionsOf words o → OnOk r (EndsBy opened o old new) → OnOk r (EndsAsSaid opened words old new)
+as_said (Ok a) opened words o old new said ends = record { options = o; said = said; ends = ends }
+as_said (Err e) opened words o old new said ends = tt
+
+pub runs_as_said : {A E D : Type 0} (r : Result A E) (opened : Text → D → Type 0) (words : List Text) (o : Options)
+    (old new : Link) → AreOptionsOf words o → OnErr r ((new ≡ old) ⊎ RunsBy opened o old new)
+    → OnErr r ((new ≡ old) ⊎ RunsAsSaid opened words old new)
+runs_as_said (Ok a) opened words o old new said runs = tt
+runs_as_said (Err e) opened words o old new said runs =
+    elim runs [ inl same ↦ inl same | inr runs ↦ inr (record { options = o; said = said; runs = runs }) ]
+
+-- of two facts the second holds
+pub or_else : {A E : Type 0} (Q P : Type 0) (r : Result A E) → OnOk r P → OnOk r (Q ⊎ P)
+or_else Q P (Ok a) holds = inr holds
+or_else Q P (Err e) holds = tt
+
+-- the status, by the outcome
+module _ {C F : Type 0} (status : C → ℕ) where
+  pub at_zero : {A E : Type 0} (P : Type 0) (ended : Result A E) (result : Result C F)
+      → OnOk ended P → OnOk ended (IfOk result (λ code. status code ≡ 0))
+      → OnErr ended (IfOk result (λ code. status code ≡ 1)) → IfOk result (λ code. status code ≡ 0 → P)
+  at_zero P (Ok a) (Ok code) p zero one = λ is. p
+  at_zero P (Ok a) (Err f) p zero one = tt
+  at_zero P (Err e) (Ok code) p zero one = λ is. absurd (omega arith)
+  at_zero P (Err e) (Err f) p zero one = tt
+
+  pub at_one : {A E : Type 0} (P : Type 0) (ended : Result A E) (result : Result C F)
+      → OnErr ended P → OnOk ended (IfOk result (λ code. status code ≡ 0))
+      → OnErr ended (IfOk result (λ code. status code ≡ 1)) → IfOk result (λ code. status code ≡ 1 → P)
+  at_one P (Ok a) (Ok code) p zero one = λ is. absurd (omega arith)
+  at_one P (Ok a) (Err f) p zero one = tt
+  at_one P (Err e) (Ok code) p zero one = λ is. p
+  at_one P (Err e) (Err f) p zero one = tt
+
+  pub below_two : {A E : Type 0} (ended : Result A E) (result : Result C F)
+      → OnOk ended (IfOk result (λ code. status code ≡ 0))
+      → OnErr ended (IfOk result (λ code. status code ≡ 1)) → IfOk result (λ code. status code < 2)
+  below_two (Ok a) (Ok code) zero one = omega arith
+  below_two (Ok a) (Err f) zero one = tt
+  below_two (Err e) (Ok code) zero one = omega arith
+  below_two (Err e) (Err f) zero one = tt
+
+-- an error comes only after a failure
+pub at_error : {A E C F : Type 0} (P : Type 0) (ended : Result A E) (result : Result C F)
+    → OnErr ended P → OnOk ended (IsOk result) → OnErr result P
+at_error P (Ok a) (Ok code) p given = tt
+at_error P (Ok a) (Err f) p given = let h : false ≡ true = given in cc
+at_error P (Err e) (Ok code) p given = tt
+at_error P (Err e) (Err f) p given = p

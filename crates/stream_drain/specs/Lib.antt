@@ -1,4 +1,5 @@
 -- The definitions that the program's contracts use.
+pub mod Words
 pub mod Options
 pub mod Counts
 pub mod Turn

@@ -1,13 +1,16 @@
--- A run of the program, by its options.
-use Rattle.std.specs.Prelude.{◌≡◌, Option, None, Some, IfSome, true}
+-- A run of the program, by its options and by its words.
+use Rattle.std.specs.Prelude.{◌≡◌, [], List, Option, None, Some, IfSome, IsTrue, is_some, string_bytes, true}
 use Rattle.redis_connection.specs.Link.{Link}
 use Rattle.redis_connection.specs.declared.wait.Wait.{Wait}
-use Rattle.model_workers.specs.Loops.Loop.{Loops}
+use Rattle.model_workers.specs.Loops.Loop.{Drains, Loops}
 use Rattle.model_workers.specs.Loops.Shown.{Way}
 use Rattle.worker.specs.Session.{Standing}
 use Rattle.worker.specs.declared.dead_letters.search.GiveUp.{GiveUp}
 use Rattle.worker.specs.declared.state.Settings.{Settings}
 use Rattle.stream_drain.specs.Lived.{Leads}
+use Rattle.stream_drain.specs.Options.{AreOptionsOf}
+use Rattle.stream_drain.specs.Words.{Text}
+use Rattle.stream_drain.specs.declared.options.Options.{Options}
 use Rattle.stream_drain.specs.Turn.{EachIsConfirmed}
 use Rattle.stream_drain.specs.Written.{Written}
 
@@ -27,3 +30,36 @@ pub record IsRun (settings : Settings) (way : Settings → Way) (lines : Written
 pub record EndsSo (settings : Settings) (wait : Option Wait) (lines : Written) (old new : Link) : Type 0 where
   pub run : IsRun settings Loops lines old new
   pub confirmed : IfSome wait (λ one. EachIsConfirmed settings one old new run.first run.last)
+
+-- the lines that a handler has first: its file is one that was opened at FILE, and it has gathered nothing
+pub record StartsIn {D : Type 0} (opened : Text → D → Type 0) (o : Options) (lines : Written) : Type 0 where
+  pub file : D
+  pub at : opened (string_bytes o.path) file
+  pub json : lines.json ≡ o.json
+  pub look_up : is_some lines.known ≡ o.look_up
+  pub none : lines.loose ≡ []
+
+-- the loop ended as these options ask
+pub record EndsBy {D : Type 0} (opened : Text → D → Type 0) (o : Options) (old new : Link) : Type 0 where
+  pub lines : Written
+  pub starts : StartsIn opened o lines
+  pub asked : IsTrue o.until_empty
+  pub ends : EndsSo (settings_with o.dead o.settings) o.wait lines old new
+
+-- rounds were made by these options
+pub record RunsBy {D : Type 0} (opened : Text → D → Type 0) (o : Options) (old new : Link) : Type 0 where
+  pub lines : Written
+  pub starts : StartsIn opened o lines
+  pub ran : IsRun (settings_with o.dead o.settings) Drains lines old new
+
+-- the words say options, and the loop ended as these ask
+pub record EndsAsSaid {D : Type 0} (opened : Text → D → Type 0) (words : List Text) (old new : Link) : Type 0 where
+  pub options : Options
+  pub said : AreOptionsOf words options
+  pub ends : EndsBy opened options old new
+
+-- the words say options, and rounds were made by these
+pub record RunsAsSaid {D : Type 0} (opened : Text → D → Type 0) (words : List Text) (old new : Link) : Type 0 where
+  pub options : Options
+  pub said : AreOptionsOf words options
+  pub runs : RunsBy opened options old new

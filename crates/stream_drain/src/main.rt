@@ -19,10 +19,11 @@
 //! returned nothing new, 2 if an argument is wrong, and else 1 with the reason. `--help` prints its arguments.
 #![tactic(auto)]
 
-ghost use Rattle.std.specs.Prelude.{◌≡◌, ◌⊎◌, IfOk, IfSome, IsTrue, OnErr, OnOk, is_some, true};
+ghost use Rattle.std.specs.Prelude.{◌≡◌, ◌≤◌, ◌⊎◌, [], IfOk, IfSome, IsOk, IsTrue, OnErr, OnOk, is_some, map, string_bytes, true};
 ghost use Rattle.std.specs.Process.{exit_status};
 ghost use Rattle.model_workers.specs.Loops.Loop.{Drains};
-ghost use Rattle.stream_drain.specs.Program.{EndsSo, IsRun, settings_with};
+ghost use Rattle.stream_drain.specs.Program.{EndsAsSaid, EndsBy, EndsSo, IsRun, RunsAsSaid, RunsBy, settings_with};
+ghost use Rattle.stream_drain.specs.Words.{asks_help};
 
 mod backlog;
 mod drain;
@@ -30,19 +31,25 @@ mod failure;
 mod json_lines;
 mod laws;
 mod lines;
+mod open;
 mod options;
 mod report;
 mod resume;
+mod said;
 mod there;
+mod words;
 
 use crate::backlog::Watched;
 use crate::drain::{Drained, drain};
 use crate::failure::Failure;
 use crate::lines::Lines;
+use crate::open::Open;
 use crate::options::{Options, options_of};
 use crate::report::Report;
 use crate::resume::{Start, begun};
+use crate::words::asks_help;
 use anyhow::{Context, Error, Result, anyhow};
+use clap::error::ErrorKind as Kind;
 use command_lines::{remedy_of, tell};
 use redis_connection::{Connection, Wait};
 use redis_wire::Limits;
@@ -53,13 +60,54 @@ use std::rt::Clock;
 use std::{env, io};
 use worker::dead_letters::{DeadLetterSearch, GiveUp};
 use worker::{Handler, Settings, Worker};
-use worker_journal::{LogError, LogFile, SystemFile};
+use worker_journal::{LogError, LogFile};
+
+/// The exit status if the words are wrong.
+const WRONG: u8 = 2;
 
 fn main(rt: HostRuntime) -> Result<ExitCode> {
-    let words = read_arguments(&rt)?;
-    match options_of(rt.alloc(), &words) {
-        Ok(options) => end_with(&rt, drain_by(&rt, options)),
-        Err(error) => Ok(tell(rt.alloc(), &rt, &error)?),
+    let (alloc, words) = (rt.alloc(), read_arguments(&rt)?);
+    let mut connection = Connection::new(alloc, rt.reader(), io::writer(&rt), Limits::default())?;
+    run_by_words(&rt, &rt, &words, &mut connection)
+}
+
+/// Drains over this connection, into a file of these files, as the words say. Returns the exit status: 0 if the loop
+/// ended as asked, or the words ask for the help; 2 if they are wrong; else 1.
+fn run_by_words<
+    R: Read + Drop,
+    W: Write + Drop,
+    D: LogFile + Drop,
+    F: Open<D>,
+    T: Clock + Eprint + AllocGlobal,
+>(rt: &T, files: &F, words: &[String], connection: &mut Connection<R, W>) -> Result<ExitCode>
+    ensures status { IfOk result (λ code. exit_status code ≤ 2) }
+    ensures ended { IfOk result (λ code. exit_status code ≡ 0 → IsTrue (asks_help (map string_bytes words.now))
+        ⊎ EndsAsSaid F.opened (map string_bytes words.now) connection.old connection.new) }
+    ensures failed { IfOk result (λ code. exit_status code ≡ 1 → (connection.new ≡ connection.old)
+        ⊎ RunsAsSaid F.opened (map string_bytes words.now) connection.old connection.new) }
+    ensures wrong { IfOk result (λ code. exit_status code ≡ 2 → connection.new ≡ connection.old) }
+    ensures err { OnErr result ((connection.new ≡ connection.old)
+        ⊎ RunsAsSaid F.opened (map string_bytes words.now) connection.old connection.new) }
+{
+    match options_of(rt.alloc(), words) {
+        Ok(options) => end_with(rt, drain_by(rt, files, connection, options)),
+        Err(error) => tell_line(rt, words, &error),
+    }
+}
+
+/// Shows the help, the version or the error of these words. Returns the exit status: 0 only if they ask for help.
+fn tell_line<T: Eprint + AllocGlobal>(
+    rt: &T,
+    words: &[String],
+    error: &clap::Error,
+) -> Result<ExitCode>
+    ensures status { IfOk result (λ code. exit_status code ≤ 2) }
+    ensures help { IfOk result (λ code. exit_status code ≡ 0 → IsTrue (asks_help (map string_bytes words.now))) }
+{
+    let code = tell(rt.alloc(), rt, error)?;
+    match error.kind() {
+        Kind::DisplayHelp | Kind::DisplayVersion if !asks_help(words) => Ok(ExitCode::from(WRONG)),
+        _ => Ok(code),
     }
 }
 
@@ -67,6 +115,7 @@ fn main(rt: HostRuntime) -> Result<ExitCode> {
 fn end_with<T: Eprint + AllocGlobal>(rt: &T, ended: Result<Drained, Failure>) -> Result<ExitCode>
     ensures ok { OnOk ended (IfOk result (λ code. exit_status code ≡ 0)) }
     ensures err { OnErr ended (IfOk result (λ code. exit_status code ≡ 1)) }
+    ensures given { OnOk ended (IsOk result) }
 {
     let Err(failure) = ended else {
         return Ok(ExitCode::SUCCESS);
@@ -121,17 +170,26 @@ fn read_arguments(rt: &HostRuntime) -> Result<Vec<String>> {
     Ok(words)
 }
 
-/// Drains by these options, over standard input and output.
-fn drain_by(rt: &HostRuntime, options: Options) -> Result<Drained, Failure> {
+/// Drains by these options, over this connection, into the file of their path.
+fn drain_by<
+    R: Read + Drop,
+    W: Write + Drop,
+    D: LogFile + Drop,
+    F: Open<D>,
+    T: Clock + Eprint + AllocGlobal,
+>(
+    rt: &T,
+    files: &F,
+    connection: &mut Connection<R, W>,
+    options: Options,
+) -> Result<Drained, Failure>
+    ensures ok { OnOk result (EndsBy F.opened options connection.old connection.new) }
+    ensures err { OnErr result ((connection.new ≡ connection.old)
+        ⊎ RunsBy F.opened options connection.old connection.new) }
+{
     let alloc = rt.alloc();
-    let mut lines = open_lines(rt, &options.path, options.json, options.look_up)?;
-    let mut connection = Connection::new(
-        alloc,
-        rt.reader(),
-        io::writer(rt),
-        Limits::default(),
-    ).map_err(Error::from)?;
-    drain_into(rt, &mut connection, &mut lines, options)
+    let mut lines = open_lines(alloc, files, &options.path, options.json, options.look_up)?;
+    drain_into(rt, connection, &mut lines, options)
 }
 
 /// Drains by these options, over this connection, into the file of these lines.
@@ -249,15 +307,23 @@ fn show_report<T: Eprint>(rt: &T, report: &Report) -> Result<()> {
 }
 
 /// Opens the file of this path for lines.
-fn open_lines(rt: &HostRuntime, path: &str, json: bool, look_up: bool) -> Result<Lines<SystemFile>>
+fn open_lines<D: LogFile + Drop, F: Open<D>>(
+    alloc: Global,
+    files: &F,
+    path: &str,
+    json: bool,
+    look_up: bool,
+) -> Result<Lines<D>>
+    ensures file { OnOk result ((file : D) × F.opened path.now file) }
     ensures json { IfOk result (λ lines. lines.json ≡ json) }
     ensures looks { IfOk result (λ lines. is_some lines.known ≡ look_up) }
+    ensures none { IfOk result (λ lines. lines.log.batch.items ≡ []) }
 {
-    let file = match SystemFile::open(rt, path) {
+    let file = match files.open(path) {
         Ok(file) => file,
         Err(error) => return Err(describe_open_error(path, error)),
     };
-    Lines::open(rt.alloc(), file, json, look_up).context(format_args!("cannot open {path}"))
+    Lines::open(alloc, file, json, look_up).context(format_args!("cannot open {path}"))
 }
 
 /// The error of a file that was not opened.

@@ -1,10 +1,12 @@
 //! The arguments of the program.
-ghost use Rattle.std.specs.Prelude.{◌≡◌, ◌≤◌, ◌⊎◌, length, IfErr, IfOk, IsTrue, None};
+ghost use Rattle.std.specs.Prelude.{◌≡◌, ◌≤◌, ◌⊎◌, length, map, string_bytes, IfErr, IfOk, IsTrue, None};
 ghost use Rattle.clap.specs.Words.{found_of, kind_of};
 ghost use Rattle.command_lines.specs.WorkerSettings.{Waits};
-ghost use Rattle.stream_drain.specs.Options.{AreOptions};
+ghost use Rattle.stream_drain.specs.Options.{AreOptions, AreOptionsOf};
 
 use crate::resume::LARGEST_COUNT;
+use crate::said::says;
+use crate::words::Line;
 use clap::error::ErrorKind;
 use clap::{ArgMatches, Command, Error};
 use command_lines::{
@@ -36,7 +38,7 @@ pub struct Options {
 }
 
 // At most the number of entries that are acknowledged at the start.
-const COUNT: Number = Number {
+pub const COUNT: Number = Number {
     name: "count",
     value: "ENTRIES",
     help: "At most so many entries at once, from 1 to 10000; a batch is one write and one sync",
@@ -51,13 +53,19 @@ const LOOK_UP: &str =
 const WAIT: &str =
     "So many replicas are to confirm each read within so many milliseconds, each number 1 at least";
 
-/// The options of these arguments.
+/// The options of these words, as clap reads them. If the words do not say so, they are refused.
 pub fn options_of(alloc: Global, words: &[String]) -> Result<Options, Error>
-    ensures { IfOk result (λ _. 4 ≤ length words.now) }
+    ensures least { IfOk result (λ _. 4 ≤ length words.now) }
+    ensures said { IfOk result (λ options. AreOptionsOf (map string_bytes words.now) options) }
 {
     let mut command = command_of(alloc)?;
     let matches = matches_of(alloc, &mut command, words, 4)?;
-    options_in(alloc, &mut command, &matches)
+    let options = options_in(alloc, &mut command, &matches)?;
+    let line = Line::read(alloc, words)?;
+    if !says(alloc, &line, &matches, &options)? {
+        return Err(refused(alloc, &mut command, &"the words do not say what was read"));
+    }
+    Ok(options)
 }
 
 /// The options of a command line, by its matches.

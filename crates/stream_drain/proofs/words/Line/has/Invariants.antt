@@ -1,0 +1,8 @@
+use Rattle.std.proofs.Common.{◌≡◌, drop, map}
+use Rattle.stream_drain.specs.Words.{is_given, pair_of}
+use Rattle.stream_drain.proofs.words.Line.has.Given as goal
+
+-- the values that are left have the option exactly if all of them do
+abbrev pub invariant-loop-of : goal.invariant-loop-of
+invariant-loop-of l = is_given l.option (map pair_of (drop l.of-index l.self.values.items))
+    ≡ is_given l.option (map pair_of l.self.values.items)

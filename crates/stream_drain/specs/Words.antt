@@ -1,0 +1,76 @@
+-- What the words of a command line say.
+use Rattle.std.specs.Prelude.{◌≡◌, ◌==◌, ◌∷◌, ◌||◌, ◌-◌, [], ℕ, zero, suc, nat_lt, nat_eq, Bool, List, None, Option, Some, codes, drop, filter, if◌then◌else◌, length, map, slice_get, unwrap_or}
+use Rattle.std.specs.List.{after_first, before_first, list_any, position_or_len, starts_with}
+use Rattle.std.specs.Borrow.{Bor}
+use Rattle.std.specs.Str.{bytes_eq}
+use Rattle.stream_drain.specs.declared.words.Line.{Line}
+
+abbrev pub Text : Type 0
+Text = List ℕ
+
+-- a word that is no value is an option if it begins with two hyphens
+abbrev pub is_option : Text → Bool
+is_option word = starts_with nat_eq word (codes "--")
+
+-- how many words after an option are its values
+abbrev pub number_of_values : Text → ℕ
+number_of_values option =
+    if bytes_eq option (codes "--json") || bytes_eq option (codes "--look-up") || bytes_eq option (codes "--quiet")
+    || bytes_eq option (codes "--until-empty") then 0
+    else if bytes_eq option (codes "--dead") || bytes_eq option (codes "--wait") then 2
+    else 1
+
+-- the values in these words, each with its option, if the first `n` words are values of `option`; a name has no option
+abbrev pub values_in : Text → ℕ → List Text → List (Text × Text)
+values_in option n [] = []
+values_in option (suc n) (word ∷ words) = (option, word) ∷ values_in option n words
+values_in option zero (word ∷ words) =
+    if bytes_eq word (codes "--") then values_in [] (length words) words
+    else if is_option word then
+    (if nat_lt (position_or_len (λ b. b == 61) word) (length word)
+    then (before_first (λ b. b == 61) word, after_first (λ b. b == 61) word) ∷ values_in [] 0 words
+    else if number_of_values word == 0 then (word, []) ∷ values_in [] 0 words
+    else values_in word (number_of_values word) words)
+    else ([], word) ∷ values_in [] 0 words
+
+-- the values of an option, in order
+abbrev pub said : Text → List (Text × Text) → List Text
+said option values = map (λ v. v.1) (filter (λ v. bytes_eq v.0 option) values)
+
+-- whether an option is given
+abbrev pub is_given : Text → List (Text × Text) → Bool
+is_given option values = list_any (λ v. bytes_eq v.0 option) values
+
+-- the last value, or the usual one
+abbrev pub last_said : Text → List Text → Text
+last_said usual values = unwrap_or (slice_get values (length values - 1)) usual
+
+abbrev pub two_of : List Text → Option (Text × Text)
+two_of (first ∷ second ∷ []) = Some (first, second)
+two_of _ = None
+
+-- the last two values
+abbrev pub last_pair : List Text → Option (Text × Text)
+last_pair values = two_of (drop (length values - 2) values)
+
+-- a value of a line, as texts
+abbrev pub pair_of : Bor Text × Bor Text → Text × Text
+pair_of v = (v.0.now, v.1.now)
+
+-- a line, as texts
+abbrev pub texts_of : Line → List (Text × Text)
+texts_of line = map pair_of line.values.items
+
+-- the values, after the one that was read, if one was
+abbrev pub values_then : Option (Bor Text × Bor Text) → List (Text × Text) → List (Text × Text)
+values_then None values = values
+values_then (Some value) values = pair_of value ∷ values
+
+-- whether a word asks for the help or the version, if it is no value
+abbrev pub is_help : Text → Bool
+is_help word = starts_with nat_eq word (codes "-h") || starts_with nat_eq word (codes "-V")
+    || bytes_eq word (codes "--help") || bytes_eq word (codes "--version")
+
+-- whether words ask for the help or the version
+abbrev pub asks_help : List Text → Bool
+asks_help words = list_any is_help words

@@ -1,0 +1,158 @@
+//! What the words of a command line say.
+ghost use Rattle.std.specs.Prelude.{◌≡◌, ◌∷◌, [], List, ℕ, IfOk, length, map, option_map, string_bytes, unwrap_or};
+ghost use Rattle.stream_drain.specs.Words.{asks_help, is_given, is_help, is_option, last_pair, last_said, number_of_values, pair_of, said, texts_of, values_in, values_then};
+
+use std::alloc::{AllocError, Global};
+
+/// A command line, as its values, each with its option, in order. The option of a name is the empty text.
+#[derive(Drop)]
+pub struct Line<'a> {
+    values: Vec<(&'a str, &'a str)>,
+}
+
+impl<'a> Line<'a> {
+    /// Reads these words.
+    pub fn read(alloc: Global, words: &'a [String]) -> Result<Line<'a>, AllocError>
+        ensures { IfOk result (λ line. texts_of line ≡ values_in [] 0 (map string_bytes words.now)) }
+    {
+        let mut values = Vec::new(alloc);
+        let mut awaited = Awaited {
+            option: "",
+            number: 0,
+        };
+        let mut rest = words;
+        while let [word, after @ ..] = rest {
+            rest = after;
+            if let Some(value) = read_word(&mut awaited, word.as_str(), after.len()) {
+                values.push(value)?;
+            }
+        }
+        Ok(Line { values })
+    }
+
+    /// The values of an option, in order.
+    pub fn values_of(&self, alloc: Global, option: &str) -> Result<Vec<&'a str>, AllocError>
+        ensures { IfOk result (λ values. map (λ v. v.now) values.items ≡ said option.now (texts_of self.now)) }
+    {
+        let mut values = Vec::new(alloc);
+        for (of, value) in &self.values {
+            if *of == option {
+                values.push(*value)?;
+            }
+        }
+        Ok(values)
+    }
+
+    /// Whether an option is given.
+    pub fn has(&self, option: &str) -> bool
+        ensures { result ≡ is_given option.now (texts_of self.now) }
+    {
+        for (of, _value) in &self.values {
+            if *of == option {
+                return true;
+            }
+        }
+        false
+    }
+}
+
+/// The option whose values the next words are, and how many of them.
+#[derive(Drop)]
+struct Awaited<'a> {
+    option: &'a str,
+    number: usize,
+}
+
+/// The value that a word gives, if it gives one. `after` is the number of words after it.
+fn read_word<'a>(
+    awaited: &mut Awaited<'a>,
+    word: &'a str,
+    after: usize,
+) -> Option<(&'a str, &'a str)>
+    ensures { (words : List (List ℕ)) → length words ≡ after
+        → values_in awaited.old.option.now awaited.old.number (word.entry.now ∷ words)
+        ≡ values_then result (values_in awaited.new.option.now awaited.new.number words) }
+{
+    if 0 < awaited.number {
+        awaited.number -= 1;
+        return Some((awaited.option, word));
+    }
+    awaited.option = "";
+    if word == "--" {
+        awaited.number = after;
+        return None;
+    }
+    if !is_option(word) {
+        return Some(("", word));
+    }
+    if let Some(value) = word.split_once('=') {
+        return Some(value);
+    }
+    if number_of_values(word) == 0 {
+        return Some((word, ""));
+    }
+    awaited.option = word;
+    awaited.number = number_of_values(word);
+    None
+}
+
+/// Whether a word is an option, if it is no value: it begins with two hyphens.
+fn is_option(word: &str) -> bool
+    ensures { result ≡ is_option word.now }
+{
+    word.as_bytes().starts_with(b"--".as_slice())
+}
+
+/// How many words after an option are its values.
+fn number_of_values(option: &str) -> usize
+    ensures { result ≡ number_of_values option.now }
+{
+    match option {
+        "--json" | "--look-up" | "--quiet" | "--until-empty" => 0,
+        "--dead" | "--wait" => 2,
+        _ => 1,
+    }
+}
+
+/// The last of these values, or the usual one.
+pub fn last_of<'a>(values: &[&'a str], usual: &'a str) -> &'a str
+    ensures { result.now ≡ last_said usual.entry.now (map (λ v. v.now) values.now) }
+{
+    match values.last() {
+        Some(value) => value,
+        None => usual,
+    }
+}
+
+/// The last two of these values.
+pub fn last_pair<'a>(values: &[&'a str]) -> Option<(&'a str, &'a str)>
+    ensures { option_map pair_of result ≡ last_pair (map (λ v. v.now) values.now) }
+{
+    match &values[values.len().saturating_sub(2)..] {
+        [first, second] => Some((*first, *second)),
+        _ => None,
+    }
+}
+
+/// Whether words ask for the help or the version.
+pub fn asks_help(words: &[String]) -> bool
+    ensures { result ≡ asks_help (map string_bytes words.now) }
+{
+    for word in words {
+        if is_help(word.as_str()) {
+            return true;
+        }
+    }
+    false
+}
+
+/// Whether a word asks for the help or the version, if it is no value. A flag of one letter may have others after it.
+fn is_help(word: &str) -> bool
+    ensures { result ≡ is_help word.now }
+{
+    let bytes = word.as_bytes();
+    bytes.starts_with(b"-h".as_slice())
+        || bytes.starts_with(b"-V".as_slice())
+        || word == "--help"
+        || word == "--version"
+}
