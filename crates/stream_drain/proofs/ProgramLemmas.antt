@@ -1,5 +1,8 @@
 -- A run of the program, by its outcome.
-use Rattle.std.proofs.Common.{◌≡◌, ◌<◌, ◌⊎◌, ℕ, Err, IfOk, IfSome, IsOk, IsTrue, List, Ok, OnErr, OnOk, Option, Result, arith, false, inl, inr, refl, true}
+use Rattle.std.proofs.Common.{◌≡◌, ◌<◌, ◌⊎◌, ℕ, Err, IfOk, IfSome, IsOk, IsTrue, List, Ok, OnErr, OnOk, Option, Result, arith, false, inl, inr, refl, true, MatchResult, None, Some, ◌++◌, ◌∙◌, ap, append_assoc, drop, subst, sym, take}
+use Rattle.std.proofs.lemmas.List.{take-append-drop}
+use Rattle.worker_journal.specs.Holds.{committed_in}
+use Rattle.worker_journal.specs.Lines.{IsRepaired, StartsWith}
 use Rattle.model_workers.specs.Loops.Loop.{Drains, Loops, Stops}
 use Rattle.redis_connection.specs.Link.{Link}
 use Rattle.redis_connection.specs.declared.wait.Wait.{Wait}
@@ -7,7 +10,7 @@ use Rattle.worker.specs.Session.{Standing}
 use Rattle.worker.specs.declared.state.Settings.{Settings}
 use Rattle.stream_drain.specs.Lived.{Leads}
 use Rattle.stream_drain.specs.Options.{AreOptionsOf}
-use Rattle.stream_drain.specs.Program.{EndsAsSaid, EndsBy, EndsSo, IsRun, RunsAsSaid, RunsBy, StartsIn, settings_with}
+use Rattle.stream_drain.specs.Program.{BeginsFile, EndsAsSaid, EndsBy, EndsSo, IsRun, RunsAsSaid, RunsBy, StartsIn, settings_with}
 use Rattle.stream_drain.specs.Words.{Text}
 use Rattle.stream_drain.specs.declared.options.Options.{Options}
 use Rattle.stream_drain.specs.Turn.{EachIsConfirmed}
@@ -46,36 +49,56 @@ module _ {A E : Type 0} (r : Result A E) (settings : Settings) (wait : Option Wa
         | Err e ↦ λ loops stops. went_so (with_stops settings old new w x stops)
       ]
 
+-- a file that was cut after its last complete line begins as it did
+pub begins_file : (file new : Option Text) (len : ℕ) → IsRepaired file new → BeginsFile file (committed_in new len)
+begins_file None new len repaired = tt
+begins_file (Some bytes) new len repaired =
+    let (lines, torn, parts, is) = repaired in
+    subst (λ (n : Option Text). IfSome (committed_in n len) (λ front. StartsWith front bytes)) (sym is) (
+      drop len lines ++ torn,
+      parts.split ∙ (ap (λ (xs : Text). xs ++ torn) (sym (take-append-drop len lines))
+          ∙ append_assoc (take len lines) (drop len lines) torn),
+    )
+
+pub opened_so : {L E F : Type 0} (seen : L → Option Text) (len : L → ℕ) (file : Option Text) (opened : Result L E)
+    (result : Result L F) (P : F → Type 0) → MatchResult result (λ x. opened ≡ Ok x) P
+    → IfOk opened (λ lines. IsRepaired file (seen lines))
+    → IfOk result (λ lines. BeginsFile file (committed_in (seen lines) (len lines)))
+opened_so {L = L} {E = E} seen len file opened (Ok x) P is repaired =
+    begins_file file (seen x) (len x)
+    (subst (λ (r : Result L E). IfOk r (λ lines. IsRepaired file (seen lines))) is repaired)
+opened_so seen len file opened (Err e) P is repaired = tt
+
 -- a run by options, from where its lines began
-module _ {A E D : Type 0} (r : Result A E) (opened : Text → D → Type 0) (o : Options) (old new : Link) (w : Written)
-    (starts : StartsIn opened o w) where
+module _ {A E : Type 0} (r : Result A E) (content : Text → Option Text) (o : Options) (old new : Link) (w : Written)
+    (starts : StartsIn content o w) where
   pub ends_by : IfOk r (λ a. IsTrue o.until_empty) → OnOk r (EndsSo (settings_with o.dead o.settings) o.wait w old new)
-      → OnOk r (EndsBy opened o old new)
+      → OnOk r (EndsBy content o old new)
   ends_by = elim r as (λ r. IfOk r (λ a. IsTrue o.until_empty)
-      → OnOk r (EndsSo (settings_with o.dead o.settings) o.wait w old new) → OnOk r (EndsBy opened o old new)) [
+      → OnOk r (EndsSo (settings_with o.dead o.settings) o.wait w old new) → OnOk r (EndsBy content o old new)) [
         | Ok a ↦ λ asked ends. record { lines = w; starts = starts; asked = asked; ends = ends }
         | Err e ↦ λ asked ends. tt
       ]
 
   pub runs_by : OnErr r ((new ≡ old) ⊎ IsRun (settings_with o.dead o.settings) Drains w old new)
-      → OnErr r ((new ≡ old) ⊎ RunsBy opened o old new)
+      → OnErr r ((new ≡ old) ⊎ RunsBy content o old new)
   runs_by = elim r as (λ r. OnErr r ((new ≡ old) ⊎ IsRun (settings_with o.dead o.settings) Drains w old new)
-      → OnErr r ((new ≡ old) ⊎ RunsBy opened o old new)) [
+      → OnErr r ((new ≡ old) ⊎ RunsBy content o old new)) [
         | Ok a ↦ λ ran. tt
         | Err e ↦ elim [ inl same ↦ inl same | inr ran ↦ inr (record { lines = w; starts = starts; ran = ran }) ]
       ]
 
 -- the options are those of the words
-pub as_said : {A E D : Type 0} (r : Result A E) (opened : Text → D → Type 0) (words : List Text) (o : Options)
-    (old new : Link) → AreOptionsOf words o → OnOk r (EndsBy opened o old new) → OnOk r (EndsAsSaid opened words old new)
-as_said (Ok a) opened words o old new said ends = record { options = o; said = said; ends = ends }
-as_said (Err e) opened words o old new said ends = tt
+pub as_said : {A E : Type 0} (r : Result A E) (content : Text → Option Text) (words : List Text) (o : Options)
+    (old new : Link) → AreOptionsOf words o → OnOk r (EndsBy content o old new) → OnOk r (EndsAsSaid content words old new)
+as_said (Ok a) content words o old new said ends = record { options = o; said = said; ends = ends }
+as_said (Err e) content words o old new said ends = tt
 
-pub runs_as_said : {A E D : Type 0} (r : Result A E) (opened : Text → D → Type 0) (words : List Text) (o : Options)
-    (old new : Link) → AreOptionsOf words o → OnErr r ((new ≡ old) ⊎ RunsBy opened o old new)
-    → OnErr r ((new ≡ old) ⊎ RunsAsSaid opened words old new)
-runs_as_said (Ok a) opened words o old new said runs = tt
-runs_as_said (Err e) opened words o old new said runs =
+pub runs_as_said : {A E : Type 0} (r : Result A E) (content : Text → Option Text) (words : List Text) (o : Options)
+    (old new : Link) → AreOptionsOf words o → OnErr r ((new ≡ old) ⊎ RunsBy content o old new)
+    → OnErr r ((new ≡ old) ⊎ RunsAsSaid content words old new)
+runs_as_said (Ok a) content words o old new said runs = tt
+runs_as_said (Err e) content words o old new said runs =
     elim runs [ inl same ↦ inl same | inr runs ↦ inr (record { options = o; said = said; runs = runs }) ]
 
 -- of two facts the second holds

@@ -5,6 +5,7 @@ use Rattle.redis_connection.specs.declared.wait.Wait.{Wait}
 use Rattle.model_workers.specs.Loops.Loop.{Drains, Loops}
 use Rattle.model_workers.specs.Loops.Shown.{Way}
 use Rattle.worker.specs.Session.{Standing}
+use Rattle.worker_journal.specs.Lines.{StartsWith}
 use Rattle.worker.specs.declared.dead_letters.search.GiveUp.{GiveUp}
 use Rattle.worker.specs.declared.state.Settings.{Settings}
 use Rattle.stream_drain.specs.Lived.{Leads}
@@ -31,35 +32,38 @@ pub record EndsSo (settings : Settings) (wait : Option Wait) (lines : Written) (
   pub run : IsRun settings Loops lines old new
   pub confirmed : IfSome wait (λ one. EachIsConfirmed settings one old new run.first run.last)
 
--- the lines that a handler has first: its file is one that was opened at FILE, and it has gathered nothing
-pub record StartsIn {D : Type 0} (opened : Text → D → Type 0) (o : Options) (lines : Written) : Type 0 where
-  pub file : D
-  pub at : opened (string_bytes o.path) file
+-- the bytes of a file, if they are known, begin with what is committed
+abbrev pub BeginsFile : Option Text → Option Text → Type 0
+BeginsFile file committed = IfSome file (λ bytes. IfSome committed (λ lines. StartsWith lines bytes))
+
+-- the lines that a handler has first: the file of FILE begins with the committed ones, and none is gathered
+pub record StartsIn (content : Text → Option Text) (o : Options) (lines : Written) : Type 0 where
+  pub file : BeginsFile (content (string_bytes o.path)) lines.committed
   pub json : lines.json ≡ o.json
   pub look_up : is_some lines.known ≡ o.look_up
   pub none : lines.loose ≡ []
 
 -- the loop ended as these options ask
-pub record EndsBy {D : Type 0} (opened : Text → D → Type 0) (o : Options) (old new : Link) : Type 0 where
+pub record EndsBy (content : Text → Option Text) (o : Options) (old new : Link) : Type 0 where
   pub lines : Written
-  pub starts : StartsIn opened o lines
+  pub starts : StartsIn content o lines
   pub asked : IsTrue o.until_empty
   pub ends : EndsSo (settings_with o.dead o.settings) o.wait lines old new
 
 -- rounds were made by these options
-pub record RunsBy {D : Type 0} (opened : Text → D → Type 0) (o : Options) (old new : Link) : Type 0 where
+pub record RunsBy (content : Text → Option Text) (o : Options) (old new : Link) : Type 0 where
   pub lines : Written
-  pub starts : StartsIn opened o lines
+  pub starts : StartsIn content o lines
   pub ran : IsRun (settings_with o.dead o.settings) Drains lines old new
 
 -- the words say options, and the loop ended as these ask
-pub record EndsAsSaid {D : Type 0} (opened : Text → D → Type 0) (words : List Text) (old new : Link) : Type 0 where
+pub record EndsAsSaid (content : Text → Option Text) (words : List Text) (old new : Link) : Type 0 where
   pub options : Options
   pub said : AreOptionsOf words options
-  pub ends : EndsBy opened options old new
+  pub ends : EndsBy content options old new
 
 -- the words say options, and rounds were made by these
-pub record RunsAsSaid {D : Type 0} (opened : Text → D → Type 0) (words : List Text) (old new : Link) : Type 0 where
+pub record RunsAsSaid (content : Text → Option Text) (words : List Text) (old new : Link) : Type 0 where
   pub options : Options
   pub said : AreOptionsOf words options
-  pub runs : RunsBy opened options old new
+  pub runs : RunsBy content options old new

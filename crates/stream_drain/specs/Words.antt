@@ -5,6 +5,7 @@ use Rattle.std.specs.Borrow.{Bor}
 use Rattle.std.specs.Str.{bytes_eq}
 use Rattle.stream_drain.specs.declared.words.Line.{Line}
 
+-- a word, as bytes
 abbrev pub Text : Type 0
 Text = List ℕ
 
@@ -20,7 +21,8 @@ number_of_values option =
     else if bytes_eq option (codes "--dead") || bytes_eq option (codes "--wait") then 2
     else 1
 
--- the values in these words, each with its option, if the first `n` words are values of `option`; a name has no option
+-- The values in these words, each with its option, if the first `n` words are values of `option`. A name has no option,
+-- and a flag no value. After `--` all words are names. `--x=v` is the value v of `--x`.
 abbrev pub values_in : Text → ℕ → List Text → List (Text × Text)
 values_in option n [] = []
 values_in option (suc n) (word ∷ words) = (option, word) ∷ values_in option n words
@@ -45,6 +47,7 @@ is_given option values = list_any (λ v. bytes_eq v.0 option) values
 abbrev pub last_said : Text → List Text → Text
 last_said usual values = unwrap_or (slice_get values (length values - 1)) usual
 
+-- two values, if there are two
 abbrev pub two_of : List Text → Option (Text × Text)
 two_of (first ∷ second ∷ []) = Some (first, second)
 two_of _ = None
@@ -66,11 +69,11 @@ abbrev pub values_then : Option (Bor Text × Bor Text) → List (Text × Text) �
 values_then None values = values
 values_then (Some value) values = pair_of value ∷ values
 
--- whether a word asks for the help or the version, if it is no value
+-- whether a word looks like one that asks for the help or the version
 abbrev pub is_help : Text → Bool
 is_help word = starts_with nat_eq word (codes "-h") || starts_with nat_eq word (codes "-V")
     || bytes_eq word (codes "--help") || bytes_eq word (codes "--version")
 
--- whether words ask for the help or the version
+-- whether one of these words does, a value too
 abbrev pub asks_help : List Text → Bool
 asks_help words = list_any is_help words

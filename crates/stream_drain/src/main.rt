@@ -22,7 +22,8 @@
 ghost use Rattle.std.specs.Prelude.{◌≡◌, ◌≤◌, ◌⊎◌, [], IfOk, IfSome, IsOk, IsTrue, OnErr, OnOk, is_some, map, string_bytes, true};
 ghost use Rattle.std.specs.Process.{exit_status};
 ghost use Rattle.model_workers.specs.Loops.Loop.{Drains};
-ghost use Rattle.stream_drain.specs.Program.{EndsAsSaid, EndsBy, EndsSo, IsRun, RunsAsSaid, RunsBy, settings_with};
+ghost use Rattle.worker_journal.specs.Holds.{committed_in};
+ghost use Rattle.stream_drain.specs.Program.{BeginsFile, EndsAsSaid, EndsBy, EndsSo, IsRun, RunsAsSaid, RunsBy, settings_with};
 ghost use Rattle.stream_drain.specs.Words.{asks_help};
 
 mod backlog;
@@ -82,12 +83,12 @@ fn run_by_words<
 >(rt: &T, files: &F, words: &[String], connection: &mut Connection<R, W>) -> Result<ExitCode>
     ensures status { IfOk result (λ code. exit_status code ≤ 2) }
     ensures ended { IfOk result (λ code. exit_status code ≡ 0 → IsTrue (asks_help (map string_bytes words.now))
-        ⊎ EndsAsSaid F.opened (map string_bytes words.now) connection.old connection.new) }
+        ⊎ EndsAsSaid (F.content files.now) (map string_bytes words.now) connection.old connection.new) }
     ensures failed { IfOk result (λ code. exit_status code ≡ 1 → (connection.new ≡ connection.old)
-        ⊎ RunsAsSaid F.opened (map string_bytes words.now) connection.old connection.new) }
+        ⊎ RunsAsSaid (F.content files.now) (map string_bytes words.now) connection.old connection.new) }
     ensures wrong { IfOk result (λ code. exit_status code ≡ 2 → connection.new ≡ connection.old) }
     ensures err { OnErr result ((connection.new ≡ connection.old)
-        ⊎ RunsAsSaid F.opened (map string_bytes words.now) connection.old connection.new) }
+        ⊎ RunsAsSaid (F.content files.now) (map string_bytes words.now) connection.old connection.new) }
 {
     match options_of(rt.alloc(), words) {
         Ok(options) => end_with(rt, drain_by(rt, files, connection, options)),
@@ -183,9 +184,9 @@ fn drain_by<
     connection: &mut Connection<R, W>,
     options: Options,
 ) -> Result<Drained, Failure>
-    ensures ok { OnOk result (EndsBy F.opened options connection.old connection.new) }
+    ensures ok { OnOk result (EndsBy (F.content files.now) options connection.old connection.new) }
     ensures err { OnErr result ((connection.new ≡ connection.old)
-        ⊎ RunsBy F.opened options connection.old connection.new) }
+        ⊎ RunsBy (F.content files.now) options connection.old connection.new) }
 {
     let alloc = rt.alloc();
     let mut lines = open_lines(alloc, files, &options.path, options.json, options.look_up)?;
@@ -314,7 +315,8 @@ fn open_lines<D: LogFile + Drop, F: Open<D>>(
     json: bool,
     look_up: bool,
 ) -> Result<Lines<D>>
-    ensures file { OnOk result ((file : D) × F.opened path.now file) }
+    ensures begins { IfOk result (λ lines. BeginsFile (F.content files.now path.now)
+        (committed_in (D.seen lines.log.file) lines.log.len)) }
     ensures json { IfOk result (λ lines. lines.json ≡ json) }
     ensures looks { IfOk result (λ lines. is_some lines.known ≡ look_up) }
     ensures none { IfOk result (λ lines. lines.log.batch.items ≡ []) }

@@ -1,21 +1,21 @@
 //! The files of a system, as a source of files for lines.
-ghost use Rattle.std.specs.Prelude.{List, ℕ, IfOk};
+ghost use Rattle.std.specs.Prelude.{◌≡◌, List, None, Option, ℕ, IfOk};
 
 use worker_journal::{LogError, LogFile, SystemFile};
 
 /// What opens the file of a path.
 pub trait Open<D: LogFile> {
-    /// The file is one that was opened at this path.
-    ghost opened: { List ℕ → D → Type 0 };
+    /// The bytes of the file of this path, if they are known.
+    ghost content: { Self → List ℕ → Option (List ℕ) };
 
     /// Opens the file of this path, and creates it if it does not exist.
     fn open(&self, path: &str) -> Result<D, LogError>
         ensures sound { IfOk result D.is_sound }
-        ensures opened { IfOk result (opened path.now) };
+        ensures bytes { IfOk result (λ file. D.seen file ≡ content self.now path.now) };
 }
 
 impl Open<SystemFile> for HostRuntime {
-    ghost opened = { λ _ _. Unit {0} };
+    ghost content = { λ _ _. None };
 
     fn open(&self, path: &str) -> Result<SystemFile, LogError> {
         SystemFile::open(self, path)
