@@ -59,4 +59,4 @@ module _ (settings : Settings) (wait : Wait) (old new : Link) (w x : Standing Wr
       (confirmed_looks wait f.link new f.confirmed)
   confirmed_fails (ends.Unconfirmed e) u =
       shown.passed_over written_too committed_with written_of lines_picture settings old u.link new w u.standing x u.answer
-      u.asked u.stands (unconfirmed_looks wait u.link new e u.explain_unconfirmed)
+      u.asked u.stands (unconfirmed_looks wait u.link new e u.unconfirmed)

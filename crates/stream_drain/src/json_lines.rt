@@ -38,6 +38,14 @@ fn begin(out: &mut Writer, id: &str) -> Result<(), AllocError>
     ensures tokens { OnOk result (out.new.tokens ≡ out.old.tokens ++ begin_tokens id.now) }
 {
     begin_id(out, id)?;
+    begin_fields(out)
+}
+
+/// Writes the key of the fields.
+fn begin_fields(out: &mut Writer) -> Result<(), AllocError>
+    ensures before { out.new.before ≡ out.old.before }
+    ensures tokens { OnOk result (out.new.tokens ≡ out.old.tokens ++ key (codes "fields") ∷ []) }
+{
     out.key("fields")
 }
 
