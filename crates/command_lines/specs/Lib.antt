@@ -2,3 +2,5 @@
 pub mod Numbers
 pub mod WorkerSettings
 pub mod Counts
+pub mod Words
+pub mod Said

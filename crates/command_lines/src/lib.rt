@@ -6,25 +6,30 @@
 #![tactic(auto)]
 
 ghost use Rattle.std.specs.Prelude.{◌≡◌, ◌≢◌, ◌≤◌, ◌<◌, ◌∷◌, ◌⊎◌, [], ℕ, List, IfErr, IfOk, IfSome, None, Some};
-ghost use Rattle.std.specs.Prelude.{codes, false, true, length, option_map, unwrap_or};
+ghost use Rattle.std.specs.Prelude.{IsTrue, codes, false, true, length, map, option_map, string_bytes, unwrap_or};
 ghost use Rattle.std.specs.Process.{exit_status};
 ghost use Rattle.clap.specs.Words.{BuildsTo, first_value, found_of, kind_of, matched_of, new_rule, one_text, raw_values, rule_of};
 ghost use Rattle.clap.specs.declared.builder.command.Command.TheViews.{out-Command as fields_of};
 ghost use Rattle.clap.specs.declared.builder.ArgAction.TheVariants.{Set, SetTrue};
 ghost use Rattle.clap.specs.declared.builder.value_parser.ValueParser.TheVariants as vp;
 ghost use Rattle.command_lines.specs.Numbers.{IsNumberIn, number_of};
+ghost use Rattle.command_lines.specs.Words.{asks_help};
 
 mod counts;
+mod said;
+mod words;
 mod worker_settings;
 
 use clap::builder::ValueParser;
 use clap::error::ErrorKind;
 use clap::{Arg, ArgAction, ArgMatches, Command, Error};
 pub use counts::Counts;
+pub use said::{names_after, says_dead, says_number, says_settings, says_text, says_wait};
 use std::alloc::{AllocError, Global};
 use std::fmt::Display;
 use std::io;
 use std::process::ExitCode;
+pub use words::{Arity, Line, asks_help, last_of};
 pub use worker_settings::{confirmation_of, dead, give_up_of, settings_of};
 
 /// The version of the programs, which `--version` shows.
@@ -125,6 +130,29 @@ pub fn tell<R: Eprint>(alloc: Global, rt: &R, error: &Error) -> io::Result<ExitC
     }
     Ok(ExitCode::from(status_of(error)))
 }
+
+/// Writes the help, the version or the error of these words to standard error. Returns the status: 0 only if a word asks
+/// for the help or the version, and else 1 or 2 as `tell`.
+pub fn tell_line<R: Eprint>(
+    alloc: Global,
+    rt: &R,
+    words: &[String],
+    error: &Error,
+) -> io::Result<ExitCode>
+    ensures status { IfOk result (λ code. exit_status code ≤ 2) }
+    ensures help { IfOk result (λ code. exit_status code ≡ 0 → IsTrue (asks_help (map string_bytes words.now))) }
+{
+    let code = tell(alloc, rt, error)?;
+    match error.kind() {
+        ErrorKind::DisplayHelp | ErrorKind::DisplayVersion if !asks_help(words) => {
+            Ok(ExitCode::from(WRONG))
+        }
+        _ => Ok(code),
+    }
+}
+
+/// The exit status if the words are wrong.
+const WRONG: u8 = 2;
 
 fn status_of(error: &Error) -> u8
     ensures asked { (kind_of error.now ≡ ErrorKind.DisplayHelp)

@@ -19,4 +19,3 @@ pub mod ReachLemmas
 pub mod FailoverLemmas
 pub mod TurnLemmas
 pub mod ProgramLemmas
-pub mod SaidLemmas

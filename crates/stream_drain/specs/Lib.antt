@@ -1,5 +1,4 @@
 -- The definitions that the program's contracts use.
-pub mod Words
 pub mod Options
 pub mod Counts
 pub mod Turn

@@ -10,7 +10,7 @@ use Rattle.worker.specs.declared.dead_letters.search.GiveUp.{GiveUp}
 use Rattle.worker.specs.declared.state.Settings.{Settings}
 use Rattle.stream_drain.specs.Lived.{Leads}
 use Rattle.stream_drain.specs.Options.{AreOptionsOf}
-use Rattle.stream_drain.specs.Words.{Text}
+use Rattle.command_lines.specs.Words.{Text}
 use Rattle.stream_drain.specs.declared.options.Options.{Options}
 use Rattle.stream_drain.specs.Turn.{EachIsConfirmed}
 use Rattle.stream_drain.specs.Written.{Written}

@@ -24,7 +24,7 @@ ghost use Rattle.std.specs.Process.{exit_status};
 ghost use Rattle.model_workers.specs.Loops.Loop.{Drains};
 ghost use Rattle.worker_journal.specs.Holds.{committed_in};
 ghost use Rattle.stream_drain.specs.Program.{BeginsFile, EndsAsSaid, EndsBy, EndsSo, IsRun, RunsAsSaid, RunsBy, settings_with};
-ghost use Rattle.stream_drain.specs.Words.{asks_help};
+ghost use Rattle.command_lines.specs.Words.{asks_help};
 
 mod backlog;
 mod drain;
@@ -38,7 +38,6 @@ mod report;
 mod resume;
 mod said;
 mod there;
-mod words;
 
 use crate::backlog::Watched;
 use crate::drain::{Drained, drain};
@@ -48,10 +47,8 @@ use crate::open::Open;
 use crate::options::{Options, options_of};
 use crate::report::Report;
 use crate::resume::{Start, begun};
-use crate::words::asks_help;
 use anyhow::{Context, Error, Result, anyhow};
-use clap::error::ErrorKind as Kind;
-use command_lines::{remedy_of, tell};
+use command_lines::{remedy_of, tell_line};
 use redis_connection::{Connection, Wait};
 use redis_wire::Limits;
 use std::alloc::{AllocError, Global};
@@ -62,9 +59,6 @@ use std::{env, io};
 use worker::dead_letters::{DeadLetterSearch, GiveUp};
 use worker::{Handler, Settings, Worker};
 use worker_journal::{LogError, LogFile};
-
-/// The exit status if the words are wrong.
-const WRONG: u8 = 2;
 
 fn main(rt: HostRuntime) -> Result<ExitCode> {
     let (alloc, words) = (rt.alloc(), read_arguments(&rt)?);
@@ -92,23 +86,7 @@ fn run_by_words<
 {
     match options_of(rt.alloc(), words) {
         Ok(options) => end_with(rt, drain_by(rt, files, connection, options)),
-        Err(error) => tell_line(rt, words, &error),
-    }
-}
-
-/// Shows the help, the version or the error of these words. Returns the exit status: 0 only if they ask for help.
-fn tell_line<T: Eprint + AllocGlobal>(
-    rt: &T,
-    words: &[String],
-    error: &clap::Error,
-) -> Result<ExitCode>
-    ensures status { IfOk result (λ code. exit_status code ≤ 2) }
-    ensures help { IfOk result (λ code. exit_status code ≡ 0 → IsTrue (asks_help (map string_bytes words.now))) }
-{
-    let code = tell(rt.alloc(), rt, error)?;
-    match error.kind() {
-        Kind::DisplayHelp | Kind::DisplayVersion if !asks_help(words) => Ok(ExitCode::from(WRONG)),
-        _ => Ok(code),
+        Err(error) => Ok(tell_line(rt.alloc(), rt, words, &error)?),
     }
 }
 

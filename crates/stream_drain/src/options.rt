@@ -5,13 +5,12 @@ ghost use Rattle.command_lines.specs.WorkerSettings.{Waits};
 ghost use Rattle.stream_drain.specs.Options.{AreOptions, AreOptionsOf};
 
 use crate::resume::LARGEST_COUNT;
-use crate::said::says;
-use crate::words::Line;
+use crate::said::{OptionArity, says};
 use clap::error::ErrorKind;
 use clap::{ArgMatches, Command, Error};
 use command_lines::{
-    BLOCK, EVERY, IDLE, Number, command, confirmation_of, dead, flag, from, give_up_of, matches_of,
-    name, refused, settings_of, wait, word_of,
+    BLOCK, EVERY, IDLE, Line, Number, command, confirmation_of, dead, flag, from, give_up_of,
+    matches_of, name, refused, settings_of, wait, word_of,
 };
 use redis_connection::Wait;
 use std::alloc::{AllocError, Global};
@@ -61,7 +60,7 @@ pub fn options_of(alloc: Global, words: &[String]) -> Result<Options, Error>
     let mut command = command_of(alloc)?;
     let matches = matches_of(alloc, &mut command, words, 4)?;
     let options = options_in(alloc, &mut command, &matches)?;
-    let line = Line::read(alloc, words)?;
+    let line = Line::read::<OptionArity>(alloc, words)?;
     if !says(alloc, &line, &matches, &options)? {
         return Err(refused(alloc, &mut command, &"the words do not say what was read"));
     }

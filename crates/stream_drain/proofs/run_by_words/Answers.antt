@@ -1,8 +1,9 @@
 use Rattle.std.proofs.Common.{◌≡◌, ◌⊎◌, IsTrue, map, string_bytes}
 use Rattle.std.specs.Process.{exit_status}
 use Rattle.stream_drain.specs.Program.{EndsAsSaid, RunsAsSaid}
-use Rattle.stream_drain.specs.Words.{asks_help}
-use Rattle.stream_drain.proofs.ProgramLemmas.{as_said, at_error, at_one, at_zero, or_else, runs_as_said}
+use Rattle.command_lines.specs.Words.{asks_help}
+use Rattle.command_lines.proofs.OutcomeLemmas.{at_error, at_one, at_zero, or_else}
+use Rattle.stream_drain.proofs.ProgramLemmas.{as_said, runs_as_said}
 use Rattle.stream_drain.proofs.run_by_words.Goals as goal
 
 pub returns-in-Ok-clause-ended : goal.returns-in-Ok-clause-ended

@@ -1,8 +1,18 @@
 //! What the words of a command line say.
 ghost use Rattle.std.specs.Prelude.{◌≡◌, ◌∷◌, [], List, ℕ, IfOk, length, map, option_map, string_bytes, unwrap_or};
-ghost use Rattle.stream_drain.specs.Words.{asks_help, is_given, is_help, is_option, last_pair, last_said, number_of_values, pair_of, said, texts_of, values_in, values_then};
+ghost use Rattle.command_lines.specs.Words.{asks_help, is_given, is_help, is_option, last_pair, last_said, pair_of, said, texts_of, values_in, values_then};
 
 use std::alloc::{AllocError, Global};
+
+/// How many values each option of a program has.
+pub trait Arity {
+    /// The number of values of an option.
+    ghost number: { List ℕ → ℕ };
+
+    /// How many words after an option are its values.
+    fn number_of_values(option: &str) -> usize
+        ensures { result ≡ number option.now };
+}
 
 /// A command line, as its values, each with its option, in order. The option of a name is the empty text.
 #[derive(Drop)]
@@ -11,9 +21,12 @@ pub struct Line<'a> {
 }
 
 impl<'a> Line<'a> {
-    /// Reads these words.
-    pub fn read(alloc: Global, words: &'a [String]) -> Result<Line<'a>, AllocError>
-        ensures { IfOk result (λ line. texts_of line ≡ values_in [] 0 (map string_bytes words.now)) }
+    /// Reads these words of a program whose options have these numbers of values.
+    ///
+    /// A word that begins with `--` is an option, unless it is a value. `--name=value` is an option with its value.
+    /// After the word `--` all words are names.
+    pub fn read<A: Arity>(alloc: Global, words: &'a [String]) -> Result<Line<'a>, AllocError>
+        ensures { IfOk result (λ line. texts_of line ≡ values_in A.number [] 0 (map string_bytes words.now)) }
     {
         let mut values = Vec::new(alloc);
         let mut awaited = Awaited {
@@ -23,7 +36,7 @@ impl<'a> Line<'a> {
         let mut rest = words;
         while let [word, after @ ..] = rest {
             rest = after;
-            if let Some(value) = read_word(&mut awaited, word.as_str(), after.len()) {
+            if let Some(value) = read_word::<A>(&mut awaited, word.as_str(), after.len()) {
                 values.push(value)?;
             }
         }
@@ -64,14 +77,14 @@ struct Awaited<'a> {
 }
 
 /// The value that a word gives, if it gives one. `after` is the number of words after it.
-fn read_word<'a>(
+fn read_word<'a, A: Arity>(
     awaited: &mut Awaited<'a>,
     word: &'a str,
     after: usize,
 ) -> Option<(&'a str, &'a str)>
     ensures { (words : List (List ℕ)) → length words ≡ after
-        → values_in awaited.old.option.now awaited.old.number (word.entry.now ∷ words)
-        ≡ values_then result (values_in awaited.new.option.now awaited.new.number words) }
+        → values_in A.number awaited.old.option.now awaited.old.number (word.entry.now ∷ words)
+        ≡ values_then result (values_in A.number awaited.new.option.now awaited.new.number words) }
 {
     if 0 < awaited.number {
         awaited.number -= 1;
@@ -88,11 +101,12 @@ fn read_word<'a>(
     if let Some(value) = word.split_once('=') {
         return Some(value);
     }
-    if number_of_values(word) == 0 {
+    let number = A::number_of_values(word);
+    if number == 0 {
         return Some((word, ""));
     }
     awaited.option = word;
-    awaited.number = number_of_values(word);
+    awaited.number = number;
     None
 }
 
@@ -101,17 +115,6 @@ fn is_option(word: &str) -> bool
     ensures { result ≡ is_option word.now }
 {
     word.as_bytes().starts_with(b"--".as_slice())
-}
-
-/// How many words after an option are its values.
-fn number_of_values(option: &str) -> usize
-    ensures { result ≡ number_of_values option.now }
-{
-    match option {
-        "--json" | "--look-up" | "--quiet" | "--until-empty" => 0,
-        "--dead" | "--wait" => 2,
-        _ => 1,
-    }
 }
 
 /// The last of these values, or the usual one.

@@ -2,7 +2,7 @@
 use Rattle.std.proofs.Common.{◌≡◌, ◌<◌, ◌≤◌, ◌^◌, ◌∙◌, subst, ℕ, List, None, Option, Some, arith, refl, sym}
 use Rattle.std.specs.Str.Parse.{IsNumeral, ParsesUnsigned, digits_value, without_leading_plus}
 use Rattle.clap.specs.Words.{ReadsOne}
-use Rattle.stream_drain.specs.Options.{IsNumberOf}
+use Rattle.command_lines.specs.Said.{IsNumberOf}
 use Rattle.command_lines.specs.Numbers.{IsNumberIn, number_of}
 
 -- the number of an option is the one that is read from its text

@@ -1,6 +1,6 @@
 use Rattle.std.proofs.Common.{◌≡◌, ◌++◌, drop, map}
-use Rattle.stream_drain.specs.Words.{pair_of, said}
-use Rattle.stream_drain.proofs.words.Line.values_of.Given as goal
+use Rattle.command_lines.specs.Words.{pair_of, said}
+use Rattle.command_lines.proofs.words.Line.values_of.Given as goal
 
 -- what is found, and what the values that are left have of the option, are its values
 abbrev pub invariant-loop-of : goal.invariant-loop-of

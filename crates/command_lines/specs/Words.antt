@@ -3,7 +3,7 @@ use Rattle.std.specs.Prelude.{◌≡◌, ◌==◌, ◌∷◌, ◌||◌, ◌-◌,
 use Rattle.std.specs.List.{after_first, before_first, list_any, position_or_len, starts_with}
 use Rattle.std.specs.Borrow.{Bor}
 use Rattle.std.specs.Str.{bytes_eq}
-use Rattle.stream_drain.specs.declared.words.Line.{Line}
+use Rattle.command_lines.specs.declared.words.Line.{Line}
 
 -- a word, as bytes
 abbrev pub Text : Type 0
@@ -13,27 +13,20 @@ Text = List ℕ
 abbrev pub is_option : Text → Bool
 is_option word = starts_with nat_eq word (codes "--")
 
--- how many words after an option are its values
-abbrev pub number_of_values : Text → ℕ
-number_of_values option =
-    if bytes_eq option (codes "--json") || bytes_eq option (codes "--look-up") || bytes_eq option (codes "--quiet")
-    || bytes_eq option (codes "--until-empty") then 0
-    else if bytes_eq option (codes "--dead") || bytes_eq option (codes "--wait") then 2
-    else 1
-
--- The values in these words, each with its option, if the first `n` words are values of `option`. A name has no option,
--- and a flag no value. After `--` all words are names. `--x=v` is the value v of `--x`.
-abbrev pub values_in : Text → ℕ → List Text → List (Text × Text)
-values_in option n [] = []
-values_in option (suc n) (word ∷ words) = (option, word) ∷ values_in option n words
-values_in option zero (word ∷ words) =
-    if bytes_eq word (codes "--") then values_in [] (length words) words
+-- The values in these words, each with its option, if the first `n` words are values of `option`. `number` says how
+-- many words after an option are its values. A name has no option, and a flag no value. After `--` all words are names.
+-- `--x=v` is the value v of `--x`.
+abbrev pub values_in : (Text → ℕ) → Text → ℕ → List Text → List (Text × Text)
+values_in number option n [] = []
+values_in number option (suc n) (word ∷ words) = (option, word) ∷ values_in number option n words
+values_in number option zero (word ∷ words) =
+    if bytes_eq word (codes "--") then values_in number [] (length words) words
     else if is_option word then
     (if nat_lt (position_or_len (λ b. b == 61) word) (length word)
-    then (before_first (λ b. b == 61) word, after_first (λ b. b == 61) word) ∷ values_in [] 0 words
-    else if number_of_values word == 0 then (word, []) ∷ values_in [] 0 words
-    else values_in word (number_of_values word) words)
-    else ([], word) ∷ values_in [] 0 words
+    then (before_first (λ b. b == 61) word, after_first (λ b. b == 61) word) ∷ values_in number [] 0 words
+    else if number word == 0 then (word, []) ∷ values_in number [] 0 words
+    else values_in number word (number word) words)
+    else ([], word) ∷ values_in number [] 0 words
 
 -- the values of an option, in order
 abbrev pub said : Text → List (Text × Text) → List Text

@@ -1,9 +1,9 @@
 use Rattle.std.proofs.Common.{◌≡◌, ◌≤◌, arith, rules}
 use Rattle.std.specs.declared.num.ParseIntError.{ParseIntError}
 use Rattle.clap.specs.Words.{found_of, one_text}
-use Rattle.stream_drain.specs.Words.{last_said, said, texts_of}
-use Rattle.stream_drain.proofs.SaidLemmas.{number_said}
-use Rattle.stream_drain.proofs.said.is_number.Goals as goal
+use Rattle.command_lines.specs.Words.{last_said, said, texts_of}
+use Rattle.command_lines.proofs.SaidLemmas.{number_said}
+use Rattle.command_lines.proofs.said.says_number.Goals as goal
 
 pub returns : goal.returns
 returns c = λ yes n is.

@@ -1,6 +1,6 @@
 use Rattle.std.proofs.Common.{◌≡◌, drop, map}
-use Rattle.stream_drain.specs.Words.{is_given, pair_of}
-use Rattle.stream_drain.proofs.words.Line.has.Given as goal
+use Rattle.command_lines.specs.Words.{is_given, pair_of}
+use Rattle.command_lines.proofs.words.Line.has.Given as goal
 
 -- the values that are left have the option exactly if all of them do
 abbrev pub invariant-loop-of : goal.invariant-loop-of

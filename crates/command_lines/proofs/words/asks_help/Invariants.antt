@@ -1,6 +1,6 @@
 use Rattle.std.proofs.Common.{◌≡◌, drop, map, string_bytes}
-use Rattle.stream_drain.specs.Words.{asks_help}
-use Rattle.stream_drain.proofs.words.asks_help.Given as goal
+use Rattle.command_lines.specs.Words.{asks_help}
+use Rattle.command_lines.proofs.words.asks_help.Given as goal
 
 -- the words that are left ask for it exactly if all of them do
 abbrev pub invariant-loop-word : goal.invariant-loop-word

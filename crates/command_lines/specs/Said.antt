@@ -1,0 +1,28 @@
+-- What the values of a command line say of a program's options.
+use Rattle.std.specs.Prelude.{◌≡◌, [], ℕ, List, codes}
+use Rattle.command_lines.specs.Numbers.{IsNumberIn, number_of}
+use Rattle.command_lines.specs.WorkerSettings.{MakesGroup, largest}
+use Rattle.command_lines.specs.Words.{Text, last_said, said}
+use Rattle.worker.specs.declared.state.Settings.{Settings}
+
+-- the number is that of a text, which is in this range
+pub record IsNumberOf (least most : ℕ) (text : Text) (number : ℕ) : Type 0 where
+  pub in_range : IsNumberIn least most text
+  pub value : number ≡ number_of text
+
+-- the number and the text
+abbrev pub number_and_text : Text × Text → ℕ × Text
+number_and_text pair = (number_of pair.0, pair.1)
+
+-- the two numbers
+abbrev pub two_numbers : Text × Text → ℕ × ℕ
+two_numbers pair = (number_of pair.0, number_of pair.1)
+
+-- a line says these settings of a worker, but for its names: of an option the last value counts, and the usual one if
+-- there is none. `--count` is usually `usual`, and from `least` to `most`
+pub record SaysSettings (usual : Text) (least most : ℕ) (line : List (Text × Text)) (s : Settings) : Type 0 where
+  pub count : IsNumberOf least most (last_said usual (said (codes "--count") line)) s.count
+  pub block : IsNumberOf 0 largest (last_said (codes "5000") (said (codes "--block") line)) s.block
+  pub idle : IsNumberOf 0 largest (last_said (codes "60000") (said (codes "--idle") line)) s.min_idle
+  pub every : IsNumberOf 0 largest (last_said (codes "10") (said (codes "--every") line)) s.every
+  pub make_group : MakesGroup (last_said [] (said (codes "--from") line)) s.make_group
