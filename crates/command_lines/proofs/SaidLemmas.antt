@@ -1,9 +1,11 @@
--- Numbers in words, and in the matches of clap.
-use Rattle.std.proofs.Common.{◌≡◌, ◌<◌, ◌≤◌, ◌^◌, ◌∙◌, subst, ℕ, List, None, Option, Some, arith, refl, sym}
+-- Numbers in words and in the matches of clap, and a last name.
+use Rattle.std.proofs.Common.{◌≡◌, ◌<◌, ◌≤◌, ◌^◌, ◌∙◌, subst, ℕ, List, None, Option, Some, arith, refl, sym, ◌∷◌, [], ap, get_or, length, map}
+use Rattle.std.specs.Borrow.{Bor}
 use Rattle.std.specs.Str.Parse.{IsNumeral, ParsesUnsigned, digits_value, without_leading_plus}
 use Rattle.clap.specs.Words.{ReadsOne}
 use Rattle.command_lines.specs.Said.{IsNumberOf}
 use Rattle.command_lines.specs.Numbers.{IsNumberIn, number_of}
+use Rattle.command_lines.specs.Words.{Text}
 
 -- the number of an option is the one that is read from its text
 pub number_is : (E : Type 0) (text : Option (List ℕ)) (least most n found : ℕ)
@@ -38,3 +40,10 @@ number_said E one text wanted least most said found n parsed same equal low high
       in_range = subst (λ (t : List ℕ). IsNumberIn least most t) same range;
       value = subst (λ (t : List ℕ). n ≡ number_of t) same value;
     }
+
+-- one name
+pub one_name : (xs : List (Bor Text)) (d : Bor Text) (a : Text) → 1 ≤ length xs → length xs < 2 → (get_or xs 0 d).now ≡ a
+    → map (λ (x : Bor Text). x.now) xs ≡ a ∷ []
+one_name [] d a some few is = absurd (omega arith)
+one_name (x ∷ []) d a some few is = ap (λ (t : Text). t ∷ []) is
+one_name (x ∷ y ∷ xs) d a some few is = absurd (omega arith)
