@@ -14,6 +14,7 @@ use Rattle.std.specs.Ordering.{is_lt}
 use Rattle.server_store.specs.Consumers.{HasRoom, IsSeen}
 use Rattle.server_store.specs.Laws.{AreInOrder, IsInOrder}
 use Rattle.server_store.specs.Order.{IsNowhere, id_order}
+use Rattle.server_store.specs.PendingList.{pending_behind}
 use Rattle.server_store.specs.declared.entry_id.EntryId.{EntryId}
 use Rattle.server_store.specs.declared.group.Consumer.{Consumer}
 use Rattle.server_store.specs.declared.group.Group.{Group}
@@ -25,7 +26,7 @@ use Rattle.server_commands.specs.Claiming.{after_claim, entry_with, ids_of, sent
 use Rattle.server_commands.specs.Model.{AreNumbered}
 use Rattle.server_commands.specs.Places.{IsMissing, consumer_names}
 use Rattle.server_commands.specs.Places.{AreInOrder as NamesAscend}
-use Rattle.server_commands.specs.Rereading.{AreOwn, DeliversAgain, IsReadyAgain, IsSeenAlone, ReadsOwn, own_behind, pending_behind}
+use Rattle.server_commands.specs.Rereading.{AreOwn, DeliversAgain, IsReadyAgain, IsSeenAlone, ReadsOwn, own_behind}
 use Rattle.server_commands.specs.Rereading.{pending_for, sent_first, sent_own, with_entries}
 use Rattle.server_commands.specs.Sent.{Sent, array_of, item_list, no_array, sent}
 use Rattle.server_commands.specs.Stalled.{has_entry}

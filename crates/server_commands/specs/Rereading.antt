@@ -1,11 +1,10 @@
 -- What XREADGROUP with an id does with one stream.
 use Rattle.std.specs.Prelude.{◌≡◌, ◌⊎◌, ◌==◌, ℕ, false, List, [], ◌∷◌, decimal, filter, map, take}
 use Rattle.std.specs.List.{AllByRecursion, Contains}
-use Rattle.std.specs.Ordering.{is_lt}
 use Rattle.server_store.specs.Consumers.{HasRoom, IsNewcomer, IsSeenAgain}
 use Rattle.server_store.specs.EntryId.{id_text}
 use Rattle.server_store.specs.Laws.{AreInOrder, IsInOrder}
-use Rattle.server_store.specs.Order.{id_order}
+use Rattle.server_store.specs.PendingList.{pending_behind}
 use Rattle.server_store.specs.declared.entry_id.EntryId.{EntryId}
 use Rattle.server_store.specs.declared.group.Group.{Group}
 use Rattle.server_store.specs.declared.group.Pending.{Pending}
@@ -20,10 +19,6 @@ use Rattle.server_commands.specs.Sent.{Sent, array_of, item_list, more_rows, no_
 use Rattle.server_commands.specs.Stalled.{has_entry}
 use Rattle.server_commands.specs.declared.answer.Answer.{Answer}
 use Rattle.server_commands.specs.declared.commands.read.own.Rereading.{Rereading}
-
--- what is pending after this id, in order
-abbrev pub pending_behind : EntryId → List Pending → List Pending
-pending_behind id = filter (λ p. is_lt (id_order id p.id))
 
 -- what is pending for the consumer of this number, in order
 abbrev pub pending_for : ℕ → List Pending → List Pending

@@ -538,7 +538,8 @@ fn put_part(group: &mut Group, part: Group, room: Option<Room>) {
     if let (Some(room), Some(consumer)) = (room, part.consumers.first()) {
         let _number = group.see_in(room, consumer.seen_at);
     }
-    for pending in part.pending.into_vec() {
+    let mut left = part.pending;
+    while let Some(pending) = left.pop_first() {
         let _given = group.put(pending);
     }
 }

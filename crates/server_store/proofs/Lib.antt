@@ -1,6 +1,9 @@
 pub mod AscendLemmas
 pub mod ConsumerLemmas
 pub mod CountLemmas
+pub mod GivenLemmas
 pub mod LawLemmas
 pub mod OrderLemmas
+pub mod PendingListLemmas
+pub mod SlotLemmas
 pub mod WithoutLemmas

@@ -28,7 +28,7 @@ not_after_itself a greater = grind (arith, nat_tests)
 
 module _ (id : EntryId) where
   -- none has the id that has a gap
-  gap_nowhere : (xs : List Pending) (i : ℕ) → IsGapFor (λ p. p.id) id xs i → IsNowhere (λ p. p.id) id xs
+  pub gap_nowhere : (xs : List Pending) (i : ℕ) → IsGapFor (λ p. p.id) id xs i → IsNowhere (λ p. p.id) id xs
   gap_nowhere xs i gap k d lt is = elim (cases_lt k i) [
     | inl low ↦ not_itself id (rw is at (gap.0 k d (omega arith) low))
     | inr high ↦ not_after_itself id (rw is at (gap.1 k d (omega arith) lt))

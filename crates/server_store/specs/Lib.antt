@@ -3,6 +3,7 @@ pub mod EntryId
 pub mod Laws
 pub mod Order
 pub mod Pending
+pub mod PendingList
 pub mod Room
 pub mod Stream
 pub mod Trim

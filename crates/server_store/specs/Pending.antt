@@ -1,5 +1,5 @@
 -- What is pending in a group, and for whom.
-use Rattle.std.specs.Prelude.{◌≡◌, ◌≤◌, ◌<◌, ◌+◌, ◌-◌, ◌==◌, ◌⊎◌, if◌then◌else◌, ℕ, List, not, filter, length, map, min}
+use Rattle.std.specs.Prelude.{◌≡◌, ◌≤◌, ◌<◌, ◌+◌, ◌-◌, ◌==◌, ◌⊎◌, if◌then◌else◌, ℕ, List, Option, Some, None, not, filter, length, map, min}
 use Rattle.std.specs.Prelude.{slice_index_or, slice_set, insert, remove}
 use Rattle.std.specs.Ordering.{is_eq}
 use Rattle.server_store.specs.Order.{id_order, IsAscending, IsGapFor}
@@ -17,6 +17,11 @@ with_more number c =
 abbrev pub with_less : ℕ → Consumer → Consumer
 with_less number c = if c.number == number then record c { pending = c.pending - 1 } else c
 
+-- one less is pending for the consumer that had what was replaced
+abbrev pub recounted : Option Pending → List Consumer → List Consumer
+recounted None consumers = consumers
+recounted (Some was) consumers = map (with_less was.consumer) consumers
+
 -- it replaces the pending entry with its id, which is no longer counted for the consumer that had it
 pub record IsRegiven (p : Pending) (old new : Group) : Type 0 where
   pub index : ℕ
@@ -26,11 +31,6 @@ pub record IsRegiven (p : Pending) (old new : Group) : Type 0 where
   pub named : was.id ≡ p.id
   pub is : new.pending.items ≡ slice_set old.pending.items index p
   pub counts : new.consumers.items ≡ map (with_more p.consumer) (map (with_less was.consumer) old.consumers.items)
-
--- it is pending in addition, at this index
-pub record IsGivenAt (index : ℕ) (p : Pending) (old new : Group) : Type 0 where
-  pub is : new.pending.items ≡ insert old.pending.items index p
-  pub counts : new.consumers.items ≡ map (with_more p.consumer) old.consumers.items
 
 -- it is pending in addition, where its id belongs
 pub record IsGivenNew (p : Pending) (old new : Group) : Type 0 where

@@ -1,18 +1,17 @@
 //! A group of consumers.
-ghost use Rattle.std.specs.Prelude.{◌≡◌, ◌≤◌, ◌<◌, ◌+◌, ℕ, [], length, map, vec_capacity, vec_len, IfErr, IfNone, IfOk, IfSome, OnOk, OnErr};
-ghost use Rattle.std.specs.VecDeque.{deque_capacity, deque_len};
+ghost use Rattle.std.specs.Prelude.{◌≡◌, ◌≤◌, ◌<◌, ◌+◌, ℕ, [], length, map, vec_capacity, vec_len, IfNone, IfOk, IfSome, OnOk, OnErr};
 ghost use Rattle.std.specs.Bool.{OnTrue, OnFalse};
 ghost use Rattle.std.specs.List.{Contains, HoldsAt};
 ghost use Rattle.std.specs.List.Sorted.{IsSearchInRange};
-ghost use Rattle.server_store.specs.Order.{IsAscending, IsGapFor, IsNowhere, IsSplitBefore};
+ghost use Rattle.server_store.specs.Order.{IsAscending, IsNowhere};
 ghost use Rattle.server_store.specs.Consumers.{HasRoom, IsNewcomer, IsRemoved, IsSeen};
 ghost use Rattle.server_store.specs.Room.{HasPlaces, IsOpenFor};
-ghost use Rattle.server_store.specs.Pending.{IsAcknowledged, IsGiven, IsGivenAt, IsRegiven, pending_without, with_less, with_more};
+ghost use Rattle.server_store.specs.Pending.{IsAcknowledged, IsGiven, pending_without, recounted, with_less, with_more};
 
 use crate::entry_id::EntryId;
+use crate::pending_list::PendingList;
 use crate::room::Room;
 use std::alloc::{AllocError, Global};
-use std::collections::VecDeque;
 use std::marker::Model;
 
 /// An entry that was delivered to a consumer and is not acknowledged.
@@ -27,7 +26,7 @@ pub struct Pending {
     pub deliveries: u64,
 }
 
-/// A pending entry in memory of its own, so that a list of many moves one word for each.
+/// A pending entry in memory of its own, so that a list of many moves two words for each.
 ///
 /// A contract sees the pending entry.
 #[derive(Debug, Drop)]
@@ -96,7 +95,7 @@ pub struct Group {
     /// How many entries were read, if that is known.
     pub entries_read: Option<i64>,
     /// What is pending, in the order of its ids.
-    pub pending: VecDeque<Held>,
+    pub pending: PendingList,
     /// The consumers, in the order of their names.
     pub consumers: Vec<Consumer>,
     /// The number of the next consumer.
@@ -116,31 +115,9 @@ impl Group {
             name,
             last_id,
             entries_read,
-            pending: VecDeque::new(alloc),
+            pending: PendingList::new(alloc),
             consumers: Vec::new(alloc),
             next_number: 0,
-        }
-    }
-
-    /// The index of the pending entry with this id, or as an `Err` of the first after it.
-    pub fn place(&self, id: EntryId) -> Result<usize, usize>
-        ensures bound { IsSearchInRange result (length self.now.pending.items) }
-        ensures found { IfOk result (HoldsAt (λ pending. pending.id ≡ id) self.now.pending.items) }
-        ensures missing { IfErr result (λ index. IsAscending (λ pending. pending.id) self.now.pending.items
-            → IsGapFor (λ pending. pending.id) id self.now.pending.items index) }
-    {
-        self.pending.binary_search_by_key(&id, |held| held.get().id)
-    }
-
-    /// The index of the first pending entry with at least this id.
-    pub fn start(&self, id: EntryId) -> usize
-        ensures bound { result ≤ length self.now.pending.items }
-        ensures split { IsAscending (λ pending. pending.id) self.now.pending.items
-            → IsSplitBefore (λ pending. pending.id) id self.now.pending.items result }
-    {
-        match self.place(id) {
-            Ok(index) => index,
-            Err(index) => index,
         }
     }
 
@@ -151,10 +128,7 @@ impl Group {
         ensures none { IfNone result (IsAscending (λ pending. pending.id) self.now.pending.items
             → IsNowhere (λ pending. pending.id) id self.now.pending.items) }
     {
-        match self.place(id) {
-            Ok(index) => Some(self.pending[index].get()),
-            Err(_) => None,
-        }
+        self.pending.get(id)
     }
 
     /// The consumer of this name.
@@ -184,7 +158,7 @@ impl Group {
             name: Vec::new(alloc),
             last_id: self.last_id,
             entries_read: self.entries_read,
-            pending: VecDeque::new(alloc),
+            pending: PendingList::new(alloc),
             consumers,
             next_number: self.next_number,
         })
@@ -197,10 +171,7 @@ impl Group {
         ensures places { IfOk result (λ room. HasPlaces more room self.now) }
     {
         let name = Vec::from_slice(alloc, name)?;
-        let mut pending = VecDeque::new(alloc);
-        if self.pending.capacity().saturating_sub(self.pending.len()) < more {
-            pending.reserve(self.pending.len().max(more).saturating_mul(2))?;
-        }
+        let pending = self.pending.room_for(alloc, more)?;
         let mut consumers = Vec::new(alloc);
         if self.consumers.capacity() == self.consumers.len() {
             consumers.reserve(self.consumers.len().max(2).saturating_mul(2))?;
@@ -247,7 +218,7 @@ impl Group {
           next_number = self.new.next_number;
         } }
     {
-        move_pending(&mut self.pending, room.pending);
+        self.pending.move_into(room.pending);
         match self.place_of(&room.name) {
             Ok(index) => {
                 let consumer = &mut self.consumers[index];
@@ -296,13 +267,8 @@ impl Group {
             → IsNowhere (λ pending. pending.id) pending.id self.old.pending.items) }
         ensures others { self.new ≡ record self.old { pending = self.new.pending; consumers = self.new.consumers } }
     {
-        match self.place(pending.id) {
-            Ok(index) => self.replace(index, pending),
-            Err(index) => {
-                let held = Held::new(*self.pending.allocator(), pending)?;
-                self.insert(index, held)?;
-            }
-        }
+        let replaced = self.pending.give(pending)?;
+        recount(&mut self.consumers, replaced, pending.consumer);
         Ok(())
     }
 
@@ -317,42 +283,9 @@ impl Group {
         ensures full { OnErr result (IsOpenFor 1 self.old → ⊥) }
         ensures places { (more : ℕ) → IsOpenFor (more + 1) self.old → IsOpenFor more self.new }
     {
-        let pending = held.get();
-        match self.place(pending.id) {
-            Ok(index) => self.replace(index, pending),
-            Err(index) => self.insert(index, held)?,
-        }
-        Ok(())
-    }
-
-    /// Replaces the pending entry with its id, which is at this index.
-    fn replace(&mut self, index: usize, pending: Pending)
-        requires within { index < length self.old.pending.items }
-        requires named { HoldsAt (λ old. old.id ≡ pending.id) self.old.pending.items index }
-        ensures is { IsRegiven pending self.old self.new }
-        ensures others { self.new ≡ record self.old { pending = self.new.pending; consumers = self.new.consumers } }
-        ensures places { (more : ℕ) → IsOpenFor (more + 1) self.old → IsOpenFor more self.new }
-    {
-        let held = &mut self.pending[index];
-        let old = held.get().consumer;
-        held.set(pending);
-        one_less(&mut self.consumers, old);
-        one_more(&mut self.consumers, pending.consumer);
-    }
-
-    /// Inserts it at this index.
-    fn insert(&mut self, index: usize, held: Held) -> Result<(), AllocError>
-        requires { index ≤ length self.old.pending.items }
-        ensures ok { OnOk result (IsGivenAt index held self.old self.new) }
-        ensures err { OnErr result (self.new.pending.items ≡ self.old.pending.items) }
-        ensures err_consumers { OnErr result (self.new.consumers ≡ self.old.consumers) }
-        ensures others { self.new ≡ record self.old { pending = self.new.pending; consumers = self.new.consumers } }
-        ensures full { OnErr result (IsOpenFor 1 self.old → ⊥) }
-        ensures places { (more : ℕ) → IsOpenFor (more + 1) self.old → IsOpenFor more self.new }
-    {
         let consumer = held.get().consumer;
-        self.pending.insert(index, held)?;
-        one_more(&mut self.consumers, consumer);
+        let replaced = self.pending.put(held)?;
+        recount(&mut self.consumers, replaced, consumer);
         Ok(())
     }
 
@@ -368,13 +301,10 @@ impl Group {
             → IsNowhere (λ pending. pending.id) id self.old.pending.items) }
         ensures others { self.new ≡ record self.old { pending = self.new.pending; consumers = self.new.consumers } }
     {
-        let Ok(index) = self.place(id) else {
+        let Some(was) = self.pending.remove(id) else {
             return false;
         };
-        let Some(held) = self.pending.remove(index) else {
-            return false;
-        };
-        one_less(&mut self.consumers, held.get().consumer);
+        one_less(&mut self.consumers, was.consumer);
         true
     }
 
@@ -387,8 +317,7 @@ impl Group {
             return 0;
         };
         let consumer = self.consumers.remove(index);
-        self.pending
-            .retain(|held| held.get().consumer != consumer.number);
+        self.pending.remove_for(consumer.number);
         consumer.pending
     }
 
@@ -408,21 +337,6 @@ impl Group {
     }
 }
 
-/// Moves the pending entries into the room, if that is larger.
-fn move_pending(pending: &mut VecDeque<Held>, mut room: VecDeque<Held>)
-    ensures items { pending.new.items ≡ pending.old.items }
-    ensures len { deque_len pending.new ≡ deque_len pending.old }
-    ensures capacity { deque_capacity pending.old ≤ deque_capacity pending.new }
-    ensures room { deque_capacity room ≤ deque_capacity pending.new }
-{
-    if room.capacity() > pending.capacity() {
-        room.clear();
-        if room.append(pending).is_ok() {
-            *pending = room;
-        }
-    }
-}
-
 /// Moves the consumers into the room, if that is larger.
 fn move_consumers(consumers: &mut Vec<Consumer>, mut room: Vec<Consumer>)
     ensures items { consumers.new.items ≡ consumers.old.items }
@@ -435,6 +349,17 @@ fn move_consumers(consumers: &mut Vec<Consumer>, mut room: Vec<Consumer>)
             *consumers = room;
         }
     }
+}
+
+/// Counts one more pending entry for the consumer of this number, and one less for the one that had what was
+/// replaced.
+fn recount(consumers: &mut [Consumer], replaced: Option<Pending>, number: u64)
+    ensures { consumers.new ≡ map (with_more number) (recounted replaced consumers.old) }
+{
+    if let Some(was) = replaced {
+        one_less(consumers, was.consumer);
+    }
+    one_more(consumers, number);
 }
 
 /// Counts one more pending entry for the consumer of this number.

@@ -1,6 +1,6 @@
 //! Memory for what is delivered to a group.
-use crate::group::{Consumer, Held};
-use std::collections::VecDeque;
+use crate::group::Consumer;
+use crate::pending_list::PendingList;
 
 /// Memory for a consumer and for what is delivered to it, allocated before the group is changed.
 ///
@@ -10,7 +10,7 @@ pub struct Room {
     /// The name of the consumer.
     pub name: Vec<u8>,
     /// For the pending entries, if the group has too little.
-    pub pending: VecDeque<Held>,
+    pub pending: PendingList,
     /// For the consumers, if the group has too little.
     pub consumers: Vec<Consumer>,
 }

@@ -94,8 +94,9 @@ fn rows(
         None => None,
     };
     let mut left = wanted.most;
-    for pending in group.pending.range(group.start(wanted.start)..) {
-        let pending = pending.get();
+    let mut at = group.pending.start(wanted.start);
+    while let Some((after, pending)) = group.pending.next_at(at) {
+        at = after;
         if pending.id > wanted.end || left == 0 {
             break;
         }
@@ -122,15 +123,10 @@ fn row(alloc: Global, group: &Group, pending: Pending, idle: u64) -> Result<Answ
 /// The number of pending entries, the first and the last one, and how many each consumer has.
 fn summary(alloc: Global, group: &Group) -> Result<Vec<Answer>, AllocError> {
     let pending = length(group.pending.len());
-    let row = match (group.pending.front(), group.pending.back()) {
+    let row = match (group.pending.first(), group.pending.last()) {
         (Some(first), Some(last)) => {
             let counts = Answer::Array(counts(alloc, group)?);
-            [
-                pending,
-                Answer::Id(first.get().id),
-                Answer::Id(last.get().id),
-                counts,
-            ]
+            [pending, Answer::Id(first.id), Answer::Id(last.id), counts]
         }
         _ => [pending, Answer::Nil, Answer::Nil, Answer::NilArray],
     };

@@ -26,7 +26,7 @@ use super::{SYNTAX, count, integer_in, refusal_of, room_of, settle};
 use crate::answer::Answer;
 use crate::refusal::Refusal;
 use own::{deliver_again, read_own};
-use server_store::{EntryId, Group, Held, Pending, Room, Stream};
+use server_store::{EntryId, Group, Pending, Room, Stream};
 use std::alloc::{AllocError, Global};
 
 /// Where the reading of a stream begins.
@@ -532,11 +532,12 @@ fn take_up(
     most: u64,
 ) -> Result<(), AllocError> {
     let mut left = most;
-    for pending in group.pending.range(group.start(first)..) {
+    let mut at = group.pending.start(first);
+    while let Some((after, pending)) = group.pending.next_at(at) {
+        at = after;
         if left == 0 {
             break;
         }
-        let pending = pending.get();
         if pending.consumer == number {
             left -= 1;
             if part.get(pending.id).is_none() {
@@ -557,15 +558,19 @@ fn reread(
 ) -> Result<Vec<Answer>, AllocError> {
     let mut answers = Vec::new(alloc);
     let mut left = reader.most;
-    let start = part.start(first);
-    for pending in part.pending.iter_mut().skip(start) {
+    let mut at = part.pending.start(first);
+    for _ in 0..part.pending.len() {
+        let Some((after, pending)) = part.pending.next_at(at) else {
+            break;
+        };
+        at = after;
         if left == 0 {
             break;
         }
         left -= 1;
         put(
             &mut answers,
-            given_again(alloc, stream, pending, reader.now)?,
+            given_again(alloc, stream, part, pending, reader.now)?,
         )?;
     }
     Ok(answers)
@@ -575,19 +580,19 @@ fn reread(
 fn given_again(
     alloc: Global,
     stream: &Stream,
-    held: &mut Held,
+    part: &mut Group,
+    pending: Pending,
     now: u64,
 ) -> Result<Answer, AllocError> {
-    let pending = held.get();
     let Some(entry) = stream.get(pending.id) else {
         return array(alloc, [Answer::Id(pending.id), Answer::NilArray]);
     };
     let answer = entry_answer(alloc, entry)?;
-    held.set(Pending {
+    part.give(Pending {
         given_at: now,
         deliveries: pending.deliveries.saturating_add(1),
         ..pending
-    });
+    })?;
     Ok(answer)
 }
 
@@ -671,7 +676,8 @@ fn put_read(group: &mut Group, part: Group, room: Room, now: u64)
     let Ok(number) = group.see_in(room, now) else {
         return;
     };
-    for pending in part.pending.into_vec() {
+    let mut left = part.pending;
+    while let Some(pending) = left.pop_first() {
         let _given = group.put(pending.for_consumer(number));
     }
 }

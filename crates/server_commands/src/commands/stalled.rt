@@ -244,8 +244,9 @@ fn stalled_in(
     let mut next = EntryId::ZERO;
     let mut left = claim.most;
     let mut attempts = claim.most.saturating_mul(10);
-    for pending in group.pending.range(group.start(claim.start)..) {
-        let pending = pending.get();
+    let mut at = group.pending.start(claim.start);
+    while let Some((after, pending)) = group.pending.next_at(at) {
+        at = after;
         if attempts == 0 || left == 0 {
             next = pending.id;
             break;

@@ -103,11 +103,12 @@ fn pending_rows(
 ) -> Result<Vec<Answer>, AllocError> {
     let mut rows = Vec::new(alloc);
     let mut left = most;
-    for pending in &group.pending {
+    let mut at = group.pending.start(EntryId::ZERO);
+    while let Some((after, pending)) = group.pending.next_at(at) {
+        at = after;
         if left == 0 {
             break;
         }
-        let pending = pending.get();
         let is_wanted = match only {
             Some(number) => pending.consumer == number,
             None => true,

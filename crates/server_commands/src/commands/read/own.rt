@@ -1,5 +1,5 @@
 //! A consumer reads again the entries that are pending for it.
-ghost use Rattle.std.specs.Prelude.{◌≡◌, ◌≤◌, ◌++◌, ◌∷◌, [], drop, false, length, map, IfOk, OnErr, OnOk};
+ghost use Rattle.std.specs.Prelude.{◌≡◌, ◌++◌, ◌∷◌, [], false, map, IfOk, OnErr, OnOk};
 ghost use Rattle.std.specs.List.{AllByRecursion, Contains};
 ghost use Rattle.server_store.specs.Consumers.{HasRoom};
 ghost use Rattle.server_store.specs.Laws.{AreInOrder, IsInOrder};
@@ -7,7 +7,7 @@ ghost use Rattle.server_commands.specs.Acknowledging.{names_of};
 ghost use Rattle.server_commands.specs.Claiming.{after_claim, entry_with, ids_of, taken_over};
 ghost use Rattle.server_commands.specs.Kinds.{IsRows};
 ghost use Rattle.server_commands.specs.Rereading.{AreOwn, DeliversAgain, IsReadyAgain, IsSeenAlone, own_behind};
-ghost use Rattle.server_commands.specs.Rereading.{pending_behind, sent_first, sent_own, with_entries};
+ghost use Rattle.server_commands.specs.Rereading.{sent_first, sent_own, with_entries};
 ghost use Rattle.server_commands.specs.Sent.{sent};
 
 use super::{Reader, row_answer};
@@ -83,29 +83,18 @@ fn pending_for(
 {
     let mut own = Vec::new(alloc);
     let mut left = most;
-    for pending in group.pending.range(start_behind(group, behind)..) {
+    let mut at = group.pending.start_behind(behind);
+    while let Some((after, pending)) = group.pending.next_at(at) {
+        at = after;
         if left == 0 {
             break;
         }
-        let pending = pending.get();
         if pending.consumer == number {
             left -= 1;
             own.push(pending)?;
         }
     }
     Ok(own)
-}
-
-/// The index of the first that is pending after this id.
-fn start_behind(group: &Group, id: EntryId) -> usize
-    ensures bound { result ≤ length group.now.pending.items }
-    ensures behind { IsInOrder group.now
-        → drop result group.now.pending.items ≡ pending_behind id group.now.pending.items }
-{
-    match group.place(id) {
-        Ok(index) => index + 1,
-        Err(index) => index,
-    }
 }
 
 /// The reply for each of them: with the fields of its entry, or nil if that was deleted.

@@ -1,12 +1,7 @@
-use Rattle.std.proofs.Common.{◌∙◌}
-use Rattle.server_store.proofs.WithoutLemmas.{without_gap, without_one}
+use Rattle.server_store.proofs.AscendLemmas.{ascending_remove}
 use Rattle.server_store.proofs.group.Group.acknowledge.Goals as goal
 
-pub returns-in_default-clause-without : goal.returns-in_default-clause-without
-returns-in_default-clause-without c up =
-    without_gap c.args.id c.args.self.now.pending.items c.in_default.field-0 c.in_default.ensures.missing up
-
-pub returns-clause-without : goal.returns-clause-without
-returns-clause-without c up =
-    c.in-Some.ensures.items
-    ∙ without_one c.args.id c.args.self.now.pending.items c.in-Ok.index c.in-Ok.ensures.bound c.in-Ok.ensures.found up
+pub returns-clause-order : goal.returns-clause-order
+returns-clause-order c = λ up.
+    let gone = c.in-Some.ensures.gone in
+    rw gone.others (ascending_remove (λ p. p.id) c.args.self.now.pending.items gone.index gone.within up)

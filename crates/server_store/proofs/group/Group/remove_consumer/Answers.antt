@@ -1,5 +1,4 @@
-use Rattle.std.proofs.Common.{inl, refl, rules}
-use Rattle.std.proofs.lemmas.Fn.{filter_same}
+use Rattle.std.proofs.Common.{inl, refl}
 use Rattle.server_store.proofs.ConsumerLemmas.{found_there}
 use Rattle.server_store.proofs.group.Group.remove_consumer.Goals as goal
 
@@ -10,6 +9,6 @@ returns-clause-removed c = inl (record {
   there = found_there c.args.self.now c.args.name.now c.in-Ok.index c.remove-consumer.result c.in-Ok.ensures.bound
       c.remove-consumer.ensures.value c.in-Ok.ensures.found;
   consumers = c.remove-consumer.ensures.items;
-  pending = filter_same _ _ _ (λ x b f' k. search rules) _ _ c.retain.ensures.filtered;
+  pending = c.remove_for.ensures;
   counted = refl;
 })
