@@ -208,9 +208,10 @@ def help_of(about: str, usage: str, arguments: Dict[str, str], options: Dict[str
 def open_metrics(metrics: Dict[str, Tuple[str, str]], samples: Iterable[str]) -> str:
     """The text of OpenMetrics with these samples, each after the head of its metric: its kind, and what it is."""
     text = ""
-    for name, (kind, told) in metrics.items():
+    for sample, (kind, told) in metrics.items():
+        name = sample.removesuffix("_total")
         unit = f"# UNIT {name} seconds\n" if name.endswith("_seconds") else ""
-        lines = (f"{line}\n" for line in samples if line.startswith((name + "{", name + "_total{")))
+        lines = (f"{line}\n" for line in samples if line.startswith(sample + "{"))
         text += f"# TYPE {name} {kind}\n{unit}# HELP {name} {told}\n{''.join(lines)}"
     return text + "# EOF\n"
 
