@@ -223,6 +223,11 @@ def with_bytes_changed(chance, data, at, pieces, others):
     return others[kind - 4](chance, data, at, end)
 
 
+def cut_off(_chance, data, at, _end):
+    """Cuts all after a place off."""
+    return data[:at]
+
+
 def play_all(play, arguments, number, chunk, jobs):
     """Plays so many, in chunks, by so many processes: `play` takes the arguments with the numbers of a chunk, and
     returns counts, and a line for each that went otherwise, which is printed. Returns the counts, and how many lines

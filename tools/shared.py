@@ -4,8 +4,6 @@ from __future__ import annotations
 import argparse
 import base64
 import contextlib
-import dataclasses
-import itertools
 import json
 import os
 import re
@@ -14,10 +12,9 @@ import shutil
 import socket
 import subprocess
 import sys
-import tempfile
 import threading
 import time
-from typing import Any, Callable, Dict, Iterable, Iterator, List, NamedTuple, Optional, Sequence, Tuple, Union
+from typing import Any, Callable, Dict, Iterable, List, NamedTuple, Optional, Sequence, Tuple, Union
 
 sys.dont_write_bytecode = True
 ROOT = os.path.dirname(os.path.dirname(os.path.abspath(__file__)))
@@ -27,6 +24,9 @@ from jagyerti import connect, process, resp, server as servers
 TOOL = os.path.basename(sys.argv[0])
 TOOLS, JAGYERTI = f"{ROOT}/tools", f"{ROOT}/bin/jagyerti"
 Place = Union[str, Tuple[str, int]]
+# What a tool says at --help that ends as all do.
+STATUS = ("\n\nExit status: 0 if all is as it has to be, 1 if not; 2 for other words, or if something that it wants is "
+          "not there.")
 SIMPLE, SIZED = (b"+", b"-", b"_", b":", b",", b"#", b"("), (b"$", b"=", b"!", b"*", b"~", b">", b"%", b"|")
 
 
@@ -41,7 +41,8 @@ def words_of(doc: Optional[str], *places: Place, **options: Any) -> argparse.Nam
     number a number, and an empty list all words after it, or None without it.
     """
     parser = argparse.ArgumentParser()
-    parser.format_help = parser.format_usage = lambda: f"{(doc or '').strip()}\n"  # type: ignore[method-assign]
+    told = (doc or "").strip() + ("" if "Exit status" in (doc or "") else STATUS)
+    parser.format_help = parser.format_usage = lambda: f"{told}\n"  # type: ignore[method-assign]
     for place in places:
         name = place.rstrip("?*+") if isinstance(place, str) else place[0]
         more: Dict[str, Any] = {"nargs": place[len(name):] or None} if isinstance(place, str) else {
@@ -71,10 +72,13 @@ def fail(text: object) -> Any:
 
 
 def want(*names: str) -> None:
-    """Ends with 2 if one of these programs is not there."""
-    lacking = [name for name in names if shutil.which(name) is None]
+    """Ends with 2 if one of these programs is not there; those of this repository are found as the command does it."""
+    lacking = [name for name in names if shutil.which(name) is None and not name.startswith("stream_")]
     if lacking:
         fail(f"not there: {', '.join(lacking)}")
+    for name in names:
+        if name.startswith("stream_"):
+            find_program(name)
 
 
 def program_of(crate: str, given: Optional[str] = None) -> str:
@@ -204,6 +208,13 @@ def head(*names: str) -> None:
     """Prints the head of a table."""
     row(*names)
     print("|" + "---|" * len(names), flush=True)
+
+
+def table(cells: Dict[str, object]) -> None:
+    """Prints a table of one row."""
+    head(*cells)
+    row(*cells.values())
+    print()
 
 
 def until(holds: Callable[[], object], seconds: float, what: str) -> None:
