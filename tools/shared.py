@@ -170,7 +170,7 @@ def taken(work: Callable[[], object]) -> Tuple[float, float]:
 
 def figures(command: Sequence[str], pattern: str, preload: str = "") -> List[int]:
     """The numbers that standard error of a run has at this pattern, with a library preloaded, or ChildProcessError."""
-    env = {**os.environ, "LD_PRELOAD": preload} if preload else None
+    env = {**os.environ, "LD_PRELOAD": preload, "COUNT_REQUESTS": "1"} if preload else None
     ran = subprocess.run(command, env=env, capture_output=True, text=True, check=False)
     found = re.search(pattern, ran.stderr)
     if ran.returncode or found is None:
@@ -179,7 +179,7 @@ def figures(command: Sequence[str], pattern: str, preload: str = "") -> List[int
 
 
 def requests_of(command: Sequence[str], shim: str) -> List[int]:
-    """How often a run asks for memory, and for more of it, as count_requests.c counts it."""
+    """How often a run asks for memory, and for more of it, as requests.c counts it."""
     return figures(command, r"requests (\d+) (\d+)", shim)
 
 
