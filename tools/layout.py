@@ -7,14 +7,14 @@ import hashlib
 import os
 import shutil
 import subprocess
-import sys
 import tempfile
 import textwrap
 import time as clock
 from concurrent.futures import ThreadPoolExecutor
-from typing import Callable, Dict, Iterator, List, NamedTuple, Sequence, TypeVar
+from typing import Dict, Iterator, List, NamedTuple, Sequence
 
-from shared import ROOT, content, crates_below
+from shared import ROOT, TOOL, content, crates_below
+from shared import write as write_file
 from unproved import KIT, words_of_sources
 import man_pages
 from jagyerti.cli import completions, make_parser
@@ -85,7 +85,6 @@ class Entry(NamedTuple):
 
 
 Tree = Dict[str, Entry]
-Made = TypeVar("Made")
 
 
 class Build(NamedTuple):
@@ -121,21 +120,11 @@ def run(words: Sequence[str], given: str = "") -> str:
 
 
 def run_shown(words: Sequence[str]) -> None:
-    """Runs a command that takes minutes, and shows each line of its output as it comes."""
-    with tempfile.TemporaryFile("w+", errors="replace") as errors:
-        with subprocess.Popen(words, stdin=subprocess.DEVNULL, stdout=subprocess.PIPE, stderr=errors, cwd=ROOT, text=True,
-                              errors="replace") as ran:
-            assert ran.stdout is not None
-            for line in ran.stdout:
-                print(line, end="", flush=True)
-        errors.seek(0)
-        if ran.returncode:
-            raise NotMade(f"{' '.join(words[:3])}: {errors.read()[-1500:]}")
-
-
-def say(text: str) -> None:
-    """Prints a line with the name of the tool."""
-    print(f"{os.path.basename(sys.argv[0])}: {text}", flush=True)
+    """Runs a command that takes minutes, and shows its output as it comes."""
+    ran = subprocess.run(words, stdin=subprocess.DEVNULL, stderr=subprocess.PIPE, cwd=ROOT, text=True, errors="replace",
+                         check=False)
+    if ran.returncode:
+        raise NotMade(f"{' '.join(words[:3])}: {ran.stderr[-1500:]}")
 
 
 @contextlib.contextmanager
@@ -143,7 +132,7 @@ def step(done: str) -> Iterator[None]:
     """Says that something is done, and the seconds that it took, once it is."""
     begun = clock.monotonic()
     yield
-    say(f"{done} ({clock.monotonic() - begun:.0f} s)")
+    print(f"{TOOL}: {done} ({clock.monotonic() - begun:.0f} s)", flush=True)
 
 
 def read(path: str) -> bytes:
@@ -162,16 +151,11 @@ def describe_build(is_proved: bool) -> Build:
     return Build(version if is_proved else f"{version}+unproved", is_proved, commit, changed, int(time))
 
 
-def newest_source(crate: str) -> str:
-    """Returns the file that was written last of those that a program and its proofs are made of."""
-    files = [file for each in crates_below(crate) for folder in ("src", "specs", "proofs")
-             for file in glob.glob(f"{ROOT}/crates/{each}/{folder}/**/*.*t*", recursive=True)]
-    return max(files, key=os.path.getmtime)
-
-
 def is_current(path: str, crate: str) -> bool:
     """Whether a file is there, and was made after the sources of this crate and those below it."""
-    return os.path.isfile(path) and os.path.getmtime(path) >= os.path.getmtime(newest_source(crate))
+    sources = (file for each in crates_below(crate) for folder in ("src", "specs", "proofs")
+               for file in glob.glob(f"{ROOT}/crates/{each}/{folder}/**/*.*t*", recursive=True))
+    return os.path.isfile(path) and os.path.getmtime(path) >= max(map(os.path.getmtime, sources))
 
 
 def build_programs(is_proved: bool) -> Dict[str, str]:
@@ -179,8 +163,8 @@ def build_programs(is_proved: bool) -> Dict[str, str]:
     paths = {name: f"{ROOT}/crates/{name}/out/{name}" if is_proved else f"{KEPT}/{name}" for name in PROGRAMS}
     lacking = [name for name in PROGRAMS if not is_current(paths[name], name)]
     if lacking:
-        how = "proves and builds these, which takes up to two hours" if is_proved else "compiles these, which takes minutes"
-        say(f"{how}: {', '.join(lacking)}")
+        how = "proves and builds these, which takes up to two hours" if is_proved else "compiles these, in minutes"
+        print(f"{TOOL}: {how}: {', '.join(lacking)}", flush=True)
     if lacking and not is_proved:
         run_shown([f"{ROOT}/tools/build-program", *lacking, KEPT])
     for name in lacking if is_proved else ():
@@ -208,7 +192,8 @@ def build_library(is_proved: bool) -> Dict[str, bytes]:
 
 
 def compile_library(is_proved: bool) -> None:
-    """Compiles the crate of the library; if it is proved, over the libraries that the gate left, or else over new ones."""
+    """Compiles the crate of the library; if it is proved, over the libraries that the gate left, or else over new
+    ones."""
     if not is_proved:
         run(["nice", "-n", "5", f"{ROOT}/tools/build-c", "--unproved"])  # (the programs take longer)
         return
@@ -241,7 +226,8 @@ def licences_of_kit() -> str:
             texts.setdefault(read(path).decode("utf-8", "replace").strip(), []).append(crate)
     head = f"The programs and the library have code of these crates of {kit_version()}: {', '.join(crates)}."
     parts = [textwrap.fill(head, 79) + "\n\nEach licence is that of the crates that are named above it.\n"]
-    return "\n".join(parts + [f"{'=' * 79}\n{', '.join(names)}\n{'=' * 79}\n\n{text}\n" for text, names in texts.items()])
+    return "\n".join(parts
+                     + [f"{'=' * 79}\n{', '.join(names)}\n{'=' * 79}\n\n{text}\n" for text, names in texts.items()])
 
 
 def kit_version() -> str:
@@ -251,7 +237,8 @@ def kit_version() -> str:
 
 def package_files(build: Build) -> Tree:
     """Returns the Python package, with a module that says what was built."""
-    paths = [path for path in glob.glob(f"{ROOT}/python/jagyerti/**/*", recursive=True) if path.endswith((".py", ".typed"))]
+    paths = [path for path in glob.glob(f"{ROOT}/python/jagyerti/**/*", recursive=True)
+             if path.endswith((".py", ".typed"))]
     tree = {os.path.relpath(path, f"{ROOT}/python/jagyerti"): Entry(read(path)) for path in sorted(paths)}
     tree["_build.py"] = Entry(f'"""What was built."""\nVERSION = "{build.version}"\nBUILD = "{build.text}"\n'.encode())
     return tree
@@ -263,23 +250,18 @@ def make_tree(build: Build) -> Tree:
         if shutil.which(name) is None:
             raise NotMade(f"{name} is not installed: Debian's package {package} has it")
     with ThreadPoolExecutor(1 if build.is_proved else 2) as pool:
-        building = pool.submit(lambda: timed("the programs are there", build_programs, build.is_proved))
-        library = pool.submit(lambda: timed("the C library is there", build_library, build.is_proved)).result()
+        building = pool.submit(step("the programs are there")(build_programs), build.is_proved)
+        library = pool.submit(step("the C library is there")(build_library), build.is_proved).result()
         programs = building.result()
     with step("the man pages, completions and licences are made"):
         return tree_of(build, programs, library)
 
 
-def timed(done: str, make: Callable[[bool], Dict[str, Made]], is_proved: bool) -> Dict[str, Made]:
-    """Builds something, and says when it is done."""
-    with step(done):
-        return make(is_proved)
-
-
 def tree_of(build: Build, programs: Dict[str, str], library: Dict[str, bytes]) -> Tree:
     """Returns all files of an installation."""
     tree = {f"bin/{name}": Entry(stamp(name, path, build), 0o755) for name, path in programs.items()}
-    tree["bin/jagyerti"] = Entry(read("bin/jagyerti").replace(b'"python"', b'"lib"').replace(b" from a checkout", b""), 0o755)
+    tree["bin/jagyerti"] = Entry(read("bin/jagyerti").replace(b'"python"', b'"lib"').replace(b" from a checkout", b""),
+                                 0o755)
     tree.update({f"lib/{name}": Entry(data) for name, data in library.items()})
     tree[f"lib/lib{LIBRARY}.so"] = Entry(link=SONAME)
     tree["include/redis_streams.h"] = Entry(read(f"crates/{LIBRARY}/redis_streams.h"))
@@ -313,24 +295,24 @@ def shell_files(build: Build, programs: Dict[str, str]) -> Iterator[tuple[str, s
 
 def units(prefix: str) -> Tree:
     """Returns the units of systemd by their paths, for commands below this prefix."""
-    return {f"lib/systemd/system/jagyerti-{name}@.service":
-            Entry(UNIT.format(name=name, about=about, settings=settings, words=words, more=more, prefix=prefix).encode())
-            for name, (about, settings, words, more) in UNITS.items()}
+    return {f"lib/systemd/system/jagyerti-{name}@.service": Entry(UNIT.format(name=name, about=about, settings=settings,
+                                                                              words=words, more=more,
+                                                                              prefix=prefix).encode()) for name,
+            (about, settings, words, more) in UNITS.items()}
 
 
 def describe_proofs(build: Build, tree: Tree) -> str:
     """Returns the text of PROVED.txt: what was proved, by what, and the sum of each file."""
     crates = sorted(crates_below(*PROGRAMS, LIBRARY))
-    lines = [f"jagyerti {build.version} ({build.text})", "", f"commit  {build.commit or 'none'}", f"kit     {kit_version()}", ""]
-    if build.is_proved:
-        lines += ["Proved, and then built: " + ", ".join(PROGRAMS) + f", lib{LIBRARY}; and these crates below them:",
-                  *(f"  {crate}" for crate in crates)]
-    else:
-        lines += ["Nothing of it was proved where it was built. It is compiled from the sources alone, with a trap at each",
-                  "sum that wraps and each index out of range."]
-    lines += ["", "The SHA-256 of each file:"]
-    lines += [f"{hashlib.sha256(entry.data).hexdigest()}  {path}" for path, entry in sorted(tree.items()) if not entry.link]
-    return "\n".join(lines) + "\n"
+    proved = "\n".join([f"Proved, and then built: {', '.join(PROGRAMS)}, lib{LIBRARY}; and these crates below them:",
+                        *(f"  {crate}" for crate in crates)])
+    unproved = (
+        "Nothing of it was proved where it was built. It is compiled from the sources alone, with a trap at each\n"
+        "sum that wraps and each index out of range.")
+    sums = (f"{hashlib.sha256(entry.data).hexdigest()}  {path}\n" for path,
+            entry in sorted(tree.items()) if not entry.link)
+    return (f"jagyerti {build.version} ({build.text})\n\ncommit  {build.commit or 'none'}\nkit     {kit_version()}\n\n"
+            f"{proved if build.is_proved else unproved}\n\nThe SHA-256 of each file:\n{''.join(sums)}")
 
 
 def write(tree: Tree, folder: str) -> None:
@@ -338,11 +320,8 @@ def write(tree: Tree, folder: str) -> None:
     for path, entry in tree.items():
         to = os.path.join(folder, path)
         os.makedirs(os.path.dirname(to), exist_ok=True)
-        made = f"{to}.new"
         if entry.link:
-            os.symlink(entry.link, made)
+            os.symlink(entry.link, f"{to}.new")
         else:
-            with open(made, "wb") as file:
-                file.write(entry.data)
-            os.chmod(made, entry.mode)
-        os.replace(made, to)
+            write_file(f"{to}.new", entry.data, entry.mode)
+        os.replace(f"{to}.new", to)
