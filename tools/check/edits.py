@@ -1,8 +1,6 @@
-"""Wrong bodies, as tools/check/refused and tools/check/planted try them: each in a copy of its crate, and only in some functions.
-
-'rt ci' would prove a crate once more for bodies in a folder must-fail/. Here the prover is asked for the functions that are
-named alone, and for those that they call. So what a body costs does not grow with the crate.
-"""
+"""Wrong bodies, as tools/check/refused and tools/check/planted try them: each in a copy of its crate, where the prover
+is asked for the functions that are named alone, and for those that they call. So what a body costs does not grow with
+the crate. 'rt ci' would prove a crate once more for bodies in a folder must-fail/."""
 import os
 import re
 import shutil
@@ -11,7 +9,7 @@ import sys
 import tempfile
 import threading
 
-from shared import text_of as read, write
+from shared import fail, text_of as read, write
 from unproved import KIT, ROOT
 
 PARTS = ("src", "specs", "proofs")
@@ -34,9 +32,34 @@ def shelves(name):
     return found
 
 
+def chosen(shelf, crates):
+    """Returns the part of a shelf that is of these crates, or all of it; ends with 2 if one of them has no bodies."""
+    if not set(crates) <= set(shelf):
+        fail(f"{', '.join(set(crates) - set(shelf))}: no crate with such bodies")
+    return {crate: edits for crate, edits in shelf.items() if not crates or crate in crates}
+
+
+def groups_of(bodies, is_apart):
+    """Returns bodies in groups that are tried at once: each of a group is apart from the others of it."""
+    groups = []
+    for body in bodies:
+        group = next((it for it in groups if all(is_apart(body, other) for other in it)), None)
+        if group is None:
+            groups.append([body])
+        else:
+            group.append(body)
+    return groups
+
+
+def lanes():
+    """Returns how many checks go side by side."""
+    return int(os.environ.get("RT_JOBS") or len(os.sched_getaffinity(0)))
+
+
 def edited(crate, edit, texts=None):
-    """Returns the function that an edit names, if it names one, the texts of the files that it changes, and for each change
-    the file and the place of it. A line 'more:' adds a further line to the text that is replaced. `texts` are files that other edits changed before, which it is applied to."""
+    """Returns the function that an edit names, if it names one, the texts of the files that it changes, and for each
+    change the file and the place of it. A line 'more:' adds a further line to the text that is replaced. `texts` are
+    files that other edits changed before, which it is applied to."""
     function, path, old, texts, sites = None, None, None, dict(texts or {}), []
     for line in read(edit).split("\n"):
         word, _, rest = line.partition(":")
@@ -70,14 +93,15 @@ def words_of(crate):
     crate = rtlib.Crate(f"{ROOT}/crates/{crate}", ROOT, {})
     with BUILDING:
         for below in crate.below():
-            if not os.path.isdir(below.rlib) and subprocess.run(["rt", "lib"], cwd=below.folder, stdout=subprocess.DEVNULL).returncode:
+            if not os.path.isdir(below.rlib) and subprocess.run(
+                    ["rt", "lib"], cwd=below.folder, stdout=subprocess.DEVNULL).returncode:
                 raise Unfit(f"the library {below.name} is not proved")
     return [f"{KIT}/bin/rattle", "check", *crate.words(["--jobs", "1"], keeps=False)]
 
 
 def checked(crate, texts, functions, kept):
-    """Checks these functions, or all if there are none, in a copy of the crate with these texts in place of its own, over
-    what earlier checks left in the folder `kept`. Returns the lines that the check said, and its exit status."""
+    """Checks these functions, or all if there are none, in a copy of the crate with these texts in place of its own,
+    over what earlier checks left in the folder `kept`. Returns the lines that the check said, and its exit status."""
     with tempfile.TemporaryDirectory(prefix="rt-edit-") as copy:
         for part in PARTS:
             if os.path.isdir(f"{ROOT}/crates/{crate}/{part}"):
@@ -86,8 +110,8 @@ def checked(crate, texts, functions, kept):
             write(f"{copy}/{path}", text)
         only = [word for function in functions for word in ("--only", function)]
         words = [*words_of(crate), "--incremental", kept, *only]
-        ran = subprocess.run(words, cwd=copy, stdin=subprocess.DEVNULL, stdout=subprocess.PIPE, stderr=subprocess.STDOUT,
-                             text=True, errors="replace")
+        ran = subprocess.run(words, cwd=copy, stdin=subprocess.DEVNULL, stdout=subprocess.PIPE,
+                             stderr=subprocess.STDOUT, text=True, errors="replace")
         return ran.stdout.rstrip().split("\n"), ran.returncode
 
 
@@ -100,11 +124,13 @@ def module_of(path):
 
 
 def functions_in(text):
-    """Returns the functions of a file: of each its name, the type of its impl if it is in one, and where it begins and ends."""
+    """Returns the functions of a file: of each its name, the type of its impl if it is in one, and where it begins and
+    ends."""
     found = []
     for head in re.finditer(r"(?m)^( *)(?:[a-z]+(?:\([a-z]+\))? |extern \"C\" )*fn (\w+)", text):
         end = re.compile(rf"(?m)^{head[1]}}}").search(text, head.end())
-        owner = [*re.finditer(r"(?m)^impl\b(?:<[^{]*?>)? (?:[^{]*? for )?(\w+)", text[:head.start()])] if head[1] else []
+        owner = [*re.finditer(r"(?m)^impl\b(?:<[^{]*?>)? (?:[^{]*? for )?(\w+)",
+                              text[:head.start()])] if head[1] else []
         if end:
             found.append((head[2], owner[-1][1] if owner else "", head.start(), end.end()))
     return found
@@ -120,12 +146,13 @@ def sources(crate):
 def size_of(crate):
     """Returns how many bytes the texts of the crate have: the more, the longer its check takes."""
     folder = f"{ROOT}/crates/{crate}"
-    return sum(os.path.getsize(f"{at}/{name}") for part in PARTS for at, _, names in os.walk(f"{folder}/{part}") for name in names)
+    return sum(os.path.getsize(f"{at}/{name}") for part in PARTS for at, _,
+               names in os.walk(f"{folder}/{part}") for name in names)
 
 
 class Calls:
-    """Which functions of a crate call which others, by the names in their texts. Names of several functions are passed over:
-    a body that is tried at once with one that its function calls is not judged, and is tried by itself then."""
+    """Which functions of a crate call which others, by the names in their texts. Names of several functions are passed
+    over: a body that is tried at once with one that its function calls is not judged, and is tried by itself then."""
 
     def __init__(self, crate):
         texts, several, self.reached = {}, set(), {}
@@ -157,22 +184,26 @@ TOLD = re.compile(r"(?:note: )?(?:\./)?(\S+?):(\d+):\d+: ")
 
 
 def reasons(said):
-    """Returns the reasons that a check gave why something is not proved: for each its file, its line in it, and the text."""
+    """Returns the reasons that a check gave why something is not proved: for each its file, its line in it, and the
+    text."""
     found = [(TOLD.match(line), line) for line in said]
     return [(at[1], int(at[2]), line) for at, line in found
             if at and (": error" in line or "it is not proved" in line or line.startswith("note: "))]
 
 
 def first_of(reasons):
-    """Returns the first of some reasons. If there are none but that a proof names what the edit took away, it says so."""
+    """Returns the first of some reasons. If there are none but that a proof names what the edit took away, it says
+    so."""
     names = re.compile(r"(note: )?(\./)?proofs/.*(has no field|is not in scope|has no `|was not admitted|depends? on)")
     first = next((line for _, _, line in reasons if not names.match(line)), "")
-    return f"(only since a proof names what the edit took away) {reasons[0][2][:160]}" if reasons and not first else first[:160]
+    if reasons and not first:
+        return f"(only since a proof names what the edit took away) {reasons[0][2][:160]}"
+    return first[:160]
 
 
 def told_of(names, texts, told):
-    """Returns those of the reasons that are of some functions: of each the file, which has its text here, and the name. A
-    reason may stand at an attribute above its function. The proof of a method stands with its type, which may be in
+    """Returns those of the reasons that are of some functions: of each the file, which has its text here, and the name.
+    A reason may stand at an attribute above its function. The proof of a method stands with its type, which may be in
     another module: if there is no reason in the file or beside it, those of all proofs of that name are returned."""
     lines, folders = set(), []
     for path, name in names:
@@ -182,7 +213,8 @@ def told_of(names, texts, told):
                 first, above = texts[path].count("\n", 0, start) + 1, texts[path][:start].split("\n")[:-1]
                 while above and above[-1].lstrip().startswith("#["):
                     above.pop()
-                lines |= {(path, line) for line in range(len(above) + 1, first + texts[path].count("\n", start, end) + 1)}
+                lines |= {(path, line)
+                          for line in range(len(above) + 1, first + texts[path].count("\n", start, end) + 1)}
     return [it for it in told if (it[0], it[1]) in lines
             or any(it[0].startswith(folder) and name in it[0] for folder, name in folders)] or [
         it for it in told if it[0].startswith("proofs/") and any(name in it[0] for _, name in folders)]
