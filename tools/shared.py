@@ -210,6 +210,12 @@ def head(*names: str) -> None:
     print("|" + "---|" * len(names), flush=True)
 
 
+def rows_of_rates(ways: Dict[str, Sequence[float]], number: int, *first: object, digits: int = 2) -> None:
+    """Prints a row for each way of doing something so often: how often a second, and the microseconds of a processor."""
+    for name, (took, work, *more) in ways.items():
+        row(*first, name, f"{number / took:,.0f}", f"{work / number * 1e6:.{digits}f}", *(f"{it:,.0f}" for it in more))
+
+
 def table(cells: Dict[str, object]) -> None:
     """Prints a table of one row."""
     head(*cells)
@@ -346,6 +352,18 @@ def says(replies: bytes, ends: bool = True, asked: Optional[bytearray] = None) -
             if asked is not None:
                 asked.extend(piece)
     return take
+
+
+def raw_replies(connection: socket.socket, commands: Iterable[Sequence[resp.Word]]) -> bytes:
+    """The bytes of the replies to these commands, which are sent at once."""
+    connection.sendall(b"".join(map(resp.encode, [*commands, ["ECHO", "end-of-replies"]])))
+    data, mark = b"", resp.encode_reply("end-of-replies")
+    while not data.endswith(mark):
+        piece = connection.recv(1 << 20)
+        if not piece:
+            raise ConnectionError("the server closed the connection")
+        data += piece
+    return data[:-len(mark)]
 
 
 def reply_at(data: bytes, at: int = 0) -> Tuple[Tuple[bytes, Any], int]:

@@ -18,13 +18,9 @@ REFUSED = re.compile(r"refused \w+: [^;]*")
 SIMPLE, SIZED = (b"+", b"-", b":", b"_", b"#", b",", b"("), (b"$", b"!", b"=", b"*", b"~", b"%", b"|")
 GROUPS = {b"*": "Array", b"~": "Set", b"%": "Map", b"|": "Attribute"}
 # How texts are written that may not be any: doubles, big numbers, nil, booleans, and texts with their format.
-WRITTEN = {
-    b",": re.compile(rb"[+-]?[0-9]+(\.[0-9]+)?([eE][+-]?[0-9]+)?|-?inf|-?nan"),
-    b"(": re.compile(rb"[+-]?[0-9]+"),
-    b"_": re.compile(b""),
-    b"#": re.compile(b"[tf]"),
-    b"=": re.compile(b".{3}:.*", re.S),
-}
+WRITTEN = {b",": re.compile(rb"[+-]?[0-9]+(\.[0-9]+)?([eE][+-]?[0-9]+)?|-?inf|-?nan"),
+           b"(": re.compile(rb"[+-]?[0-9]+"), b"_": re.compile(b""), b"#": re.compile(b"[tf]"),
+           b"=": re.compile(b".{3}:.*", re.S),}
 
 
 def spelled(data):
