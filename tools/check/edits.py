@@ -1,6 +1,6 @@
 """Wrong bodies, as tools/check/refused and tools/check/planted try them: each in a copy of its crate, where the prover
-is asked for the functions that are named alone, and for those that they call. So what a body costs does not grow with
-the crate. 'rt ci' would prove a crate once more for bodies in a folder must-fail/."""
+is asked for the functions that are named alone, and for those that they call. So what a body costs does not grow
+with the crate. 'rt ci' would prove a crate once more for bodies in a folder must-fail/."""
 import os
 import re
 import shutil

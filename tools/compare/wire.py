@@ -1,6 +1,7 @@
 """A second reader of the RESP protocol, and the frame in which readers are compared with the program cases: for
 compare-wire, compare-refs, compare-full, compare-hiredis and compare-slots."""
 import collections
+import contextlib
 import random
 import re
 import subprocess
@@ -18,9 +19,13 @@ REFUSED = re.compile(r"refused \w+: [^;]*")
 SIMPLE, SIZED = (b"+", b"-", b":", b"_", b"#", b",", b"("), (b"$", b"!", b"=", b"*", b"~", b"%", b"|")
 GROUPS = {b"*": "Array", b"~": "Set", b"%": "Map", b"|": "Attribute"}
 # How texts are written that may not be any: doubles, big numbers, nil, booleans, and texts with their format.
-WRITTEN = {b",": re.compile(rb"[+-]?[0-9]+(\.[0-9]+)?([eE][+-]?[0-9]+)?|-?inf|-?nan"),
-           b"(": re.compile(rb"[+-]?[0-9]+"), b"_": re.compile(b""), b"#": re.compile(b"[tf]"),
-           b"=": re.compile(b".{3}:.*", re.S),}
+WRITTEN = {
+    b",": re.compile(rb"[+-]?[0-9]+(\.[0-9]+)?([eE][+-]?[0-9]+)?|-?inf|-?nan"),
+    b"(": re.compile(rb"[+-]?[0-9]+"),
+    b"_": re.compile(b""),
+    b"#": re.compile(b"[tf]"),
+    b"=": re.compile(b".{3}:.*", re.S),
+}
 
 
 def spelled(data):
@@ -55,42 +60,31 @@ def ended(data, at):
 
 
 def line(data, at):
-    end = at
-    while end < len(data) and data[end] not in b"\r\n":
-        end += 1
+    end = re.compile(rb"[^\r\n]*").match(data, at).end()
     if end - at > LINE:
         raise Refused
     return data[at:end], ended(data, end)
 
 
 def number(text):
-    digits = text[1:] if text[:1] in (b"+", b"-") else text
-    if not digits or any(c not in b"0123456789" for c in digits):
+    if not re.fullmatch(rb"[+-]?[0-9]+", text) or not -(2**63) <= int(text) < 2**63:
         raise Refused
-    value = int(text)
-    if not -(2**63) <= value < 2**63:
-        raise Refused
-    return value
+    return int(text)
 
 
 def length(data, at):
     text, at = line(data, at)
     if text == b"-1":
         return None, at
-    if text[:1] in (b"+", b"-"):
+    if text[:1] in (b"+", b"-") or number(text) > LENGTH:
         raise Refused
-    value = number(text)
-    if value > LENGTH:
-        raise Refused
-    return value, at
+    return int(text), at
 
 
 def is_text(data):
-    try:
-        data.decode()
-    except UnicodeDecodeError:
-        return False
-    return True
+    with contextlib.suppress(UnicodeDecodeError):
+        return data.decode() is not None
+    return False
 
 
 def quoted(text):
@@ -102,10 +96,6 @@ def quoted(text):
         return named.get(ord(c)) or (c if is_drawn else "\\u{%x}" % ord(c))
 
     return '"' + "".join(map(one, text)) + '"'
-
-
-def octets(data):
-    return "[" + ", ".join(str(c) for c in data) + "]"
 
 
 # A reply is its first byte, and what it has: bytes, or for a group a list of replies. Nil is (b"_", b"").
@@ -163,18 +153,10 @@ def push(data, at):
     count, at = length(data, at)
     if not count:
         raise Refused
-    if at == len(data):
-        raise Short
-    if data[at : at + 1] not in (b"+", b"$"):
+    if at < len(data) and data[at:at + 1] not in (b"+", b"$"):
         raise Refused
-    if data[at : at + 1] == b"+":
-        text, at = line(data, at + 1)
-    else:
-        size, at = length(data, at + 1)
-        if size is None:
-            raise Refused
-        text, at = bulk(data, at, size)
-    if not is_text(text):
+    (kind, text), at = value(data, at, DEPTH)
+    if kind == b"_" or not is_text(text):
         raise Refused
     members, at = values(data, at, DEPTH - 1, count - 1)
     return (b">", [(b"+", text), *members]), at
@@ -202,7 +184,7 @@ def shown(reply):
         return f"Value({value_shown(reply)})"
     if isinstance(held, list):
         return f"Group {{ kind: {GROUPS[kind]}, members: [{', '.join(map(shown, held))}] }}"
-    return f"Error(ServerError {{ text: {octets(held)} }})"
+    return f"Error(ServerError {{ text: {list(held)} }})"
 
 
 def value_shown(reply):
@@ -224,7 +206,7 @@ def value_shown(reply):
     if kind == b"=" and is_text(held[:3]) and is_text(held[4:]):
         return f"VerbatimString {{ format: {quoted(held[:3].decode())}, text: {quoted(held[4:].decode())} }}"
     if kind in (b"$", b"=") or not is_text(held):
-        return f"BulkString({octets(held[4:] if kind == b'=' else held)})"
+        return f"BulkString({list(held[4:] if kind == b'=' else held)})"
     return f"SimpleString({quoted(held.decode())})"
 
 

@@ -4,8 +4,8 @@
 usage: cluster_by_hand.py fill NODES NAME PARTITIONS FILE SKIP      adds the lines of FILE behind the first SKIP ones
        cluster_by_hand.py drain NODES NAME PARTITIONS FILE WHICH [--until-empty]    entries of the partitions WHICH
 
-NODES is HOST:PORT,.., and WHICH is numbers with commas between them. 'fill' sends fifty records at once, and sends
-them again if the client tells an error. 'drain' writes each entry into FILE.N, has the disk take the lines in, and
+NODES is HOST:PORT,.., and WHICH is numbers with commas between them. 'fill' sends fifty records at once, and sends them
+again if the client tells an error. 'drain' writes each entry into FILE.N, has the disk take the lines in, and
 acknowledges them then. After an error it begins with what is pending. 'tools/live/cluster-live --redis-py' runs both.
 """
 import os
