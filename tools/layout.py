@@ -163,7 +163,8 @@ def build_programs(is_proved: bool) -> Dict[str, str]:
     paths = {name: f"{ROOT}/crates/{name}/out/{name}" if is_proved else f"{KEPT}/{name}" for name in PROGRAMS}
     lacking = [name for name in PROGRAMS if not is_current(paths[name], name)]
     if lacking:
-        how = "proves and builds these, which takes up to two hours" if is_proved else "compiles these, in minutes"
+        how = "proves and builds these, which takes up to two hours" if is_proved else \
+            "compiles these, which takes minutes"
         print(f"{TOOL}: {how}: {', '.join(lacking)}", flush=True)
     if lacking and not is_proved:
         run_shown([f"{ROOT}/tools/build-program", *lacking, KEPT])

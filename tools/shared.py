@@ -103,6 +103,19 @@ def compiled(folder: str, source: str, *words: str) -> Optional[str]:
     return path if subprocess.run(command, stderr=subprocess.DEVNULL, check=False).returncode == 0 else None
 
 
+class Failed(Exception):
+    """What is not as it has to be."""
+
+
+def ran(words: Sequence[str], folder: str = ROOT, **more: Any) -> str:
+    """Runs a command to its end, and returns what it prints. Fails if its status is not 0."""
+    done = subprocess.run(words, cwd=folder, stdin=subprocess.DEVNULL, stdout=subprocess.PIPE, stderr=subprocess.STDOUT,
+                          text=True, errors="replace", check=False, **more)
+    if done.returncode:
+        raise Failed(f"{' '.join(words)[:300]} ended with {done.returncode}: {done.stdout[-2000:]}")
+    return done.stdout
+
+
 def python_with(module: str) -> Optional[str]:
     """An interpreter that has this module, None if there is none."""
     for python in (sys.executable, "/usr/bin/python3"):
@@ -211,7 +224,8 @@ def head(*names: str) -> None:
 
 
 def rows_of_rates(ways: Dict[str, Sequence[float]], number: int, *first: object, digits: int = 2) -> None:
-    """Prints a row for each way of doing something so often: how often a second, and the microseconds of a processor."""
+    """Prints a row for each way of doing something so often: how often a second, and the microseconds of a
+    processor."""
     for name, (took, work, *more) in ways.items():
         row(*first, name, f"{number / took:,.0f}", f"{work / number * 1e6:.{digits}f}", *(f"{it:,.0f}" for it in more))
 
