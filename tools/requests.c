@@ -1,7 +1,8 @@
-/* Put before a program by LD_PRELOAD: counts its requests for memory, and goes on to the C library (glibc) with each, by
-   the names under which it keeps its own functions. With COUNT_REQUESTS a line 'requests ALLOCATIONS REALLOCATIONS' comes
-   to standard error at the end. The request whose number is in REFUSE_REQUEST, counted from 1, is refused; then the file is
-   made that REFUSED_MARK names, so that its caller knows that the request was met. */
+/* Put before a program by LD_PRELOAD: counts its requests for memory, and goes on to the C library (glibc)
+   with each, by the names under which it keeps its own functions. With COUNT_REQUESTS a line 'requests
+   ALLOCATIONS REALLOCATIONS' comes to standard error at the end. The request whose number is in
+   REFUSE_REQUEST, counted from 1, is refused; then the file is made that REFUSED_MARK names, so that its
+   caller knows that the request was met. */
 #include <errno.h>
 #include <fcntl.h>
 #include <stddef.h>
