@@ -220,23 +220,23 @@ def answer(data):
     return f"{end} {shown(reply)}"
 
 
-def mutated(chosen, data):
+def mutated(chosen, data, marks=b"0123456789-+$*:%~>|#_,(!=\r\n"):
+    """The bytes with one to three changes; a mark, and '?', may come in the place of a byte, and a mark before one."""
     data = bytearray(data)
     for _ in range(chosen.choice((1, 1, 1, 2, 3))):
-        at = chosen.randrange(len(data) + 1)
-        what = chosen.randrange(6)
+        at, what = chosen.randrange(len(data) + 1), chosen.randrange(6)
         if what == 0 and at < len(data):
             data[at] = chosen.randrange(256)
         elif what == 1 and at < len(data):
-            data[at] = chosen.choice(b"0123456789-+$*:%~>|#_,(!=\r\n?")
+            data[at] = chosen.choice(marks + b"?")
         elif what == 2 and at < len(data):
-            del data[at : at + chosen.randrange(1, 4)]
+            del data[at:at + chosen.randrange(1, 4)]
         elif what == 3:
-            data[at:at] = bytes([chosen.choice(b"0123456789-+$*:%~>|#_,(!=\r\n")])
+            data[at:at] = bytes([chosen.choice(marks)])
         elif what == 4:
             del data[at:]
         else:
-            data[at:at] = data[: chosen.randrange(1, 9)]
+            data[at:at] = data[:chosen.randrange(1, 9)]
     return bytes(data)
 
 
