@@ -90,11 +90,7 @@ pub fn names_after<'n, 'a>(names: &'n [&'a str], settings: &Settings) -> Option<
 }
 
 /// Whether entries are given up as `--dead` says in a line.
-pub fn says_dead(
-    alloc: Global,
-    line: &Line<'_>,
-    dead: &Option<GiveUp>,
-) -> Result<bool, AllocError>
+pub fn says_dead(alloc: Global, line: &Line<'_>, dead: &Option<GiveUp>) -> Result<bool, AllocError>
     ensures { IfOk result (λ says. IsTrue says → option_map parts_of dead.now
         ≡ option_map number_and_text (last_pair (said (codes "--dead") (texts_of line.now)))) }
 {
@@ -103,11 +99,7 @@ pub fn says_dead(
 }
 
 /// Whether replicas confirm as `--wait` says in a line.
-pub fn says_wait(
-    alloc: Global,
-    line: &Line<'_>,
-    wait: Option<Wait>,
-) -> Result<bool, AllocError>
+pub fn says_wait(alloc: Global, line: &Line<'_>, wait: Option<Wait>) -> Result<bool, AllocError>
     ensures { IfOk result (λ says. IsTrue says → option_map wait_parts wait
         ≡ option_map two_numbers (last_pair (said (codes "--wait") (texts_of line.now)))) }
 {
