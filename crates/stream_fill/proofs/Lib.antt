@@ -1,4 +1,5 @@
 pub mod BaseLemmas
 pub mod KeepLemmas
 pub mod LinesLemmas
+pub mod ProgramLemmas
 pub mod ReaderLemmas

@@ -4,3 +4,4 @@ pub mod Base
 pub mod Filled
 pub mod Placed
 pub mod Taken
+pub mod Program

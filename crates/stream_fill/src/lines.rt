@@ -9,11 +9,9 @@ ghost use Rattle.stream_fill.specs.Taken.{AreRecordsOf, IsRecordOf, records_of};
 use crate::byte_file::ByteFile;
 use crate::json_records::record_of_json;
 use crate::line_reader::{LineReader, Place};
-use anyhow::{Context, Error, Result, anyhow, bail};
+use anyhow::{Error, Result, anyhow, bail};
 use json::Scratch;
 use std::alloc::{AllocError, Global};
-use std::fs::File;
-use std::rt::Files;
 use worker_producer::{NotRead, Record, Source};
 
 /// Remembers the place of every 65,536th line.
@@ -47,20 +45,6 @@ pub struct Lines<F: ByteFile + Drop> {
     ghost placed: { ForSome (F.bytes reader.file) (λ all. All (IsPlace all) places.items) },
     ghost counted: { ForSome (F.bytes reader.file) (λ all. count ≡ length (lines_of all)) },
     ghost torn: { ForSome (F.bytes reader.file) (λ all. IsTrue is_torn ↔ (torn_of all ≢ [])) },
-}
-
-impl Lines<File> {
-    /// Opens the file of this path, and counts its lines.
-    pub fn open<R: Files<File = File> + AllocGlobal>(
-        rt: &R,
-        path: &str,
-        form: Form,
-    ) -> Result<Lines<File>>
-        ensures { IfOk result (λ lines. lines.form ≡ form) }
-    {
-        let file = File::open(rt, path).context(format_args!("cannot open {path}"))?;
-        Lines::new(rt.alloc(), file, form)
-    }
 }
 
 impl<F: ByteFile + Drop> Lines<F> {

@@ -16,9 +16,11 @@
 //! prints its arguments.
 #![tactic(auto)]
 
-ghost use Rattle.std.specs.Prelude.{◌≡◌, IfOk, IfSome, IsErr, IsOk, OnErr, OnOk, false};
+ghost use Rattle.std.specs.Prelude.{◌≡◌, ◌≢◌, ◌≤◌, ◌⊎◌, IfOk, IfSome, IsErr, IsOk, IsTrue, OnErr, OnOk, false, map, string_bytes};
 ghost use Rattle.std.specs.Process.{exit_status};
+ghost use Rattle.command_lines.specs.Words.{asks_help};
 ghost use Rattle.stream_fill.specs.Filled.{FillsNot};
+ghost use Rattle.stream_fill.specs.Program.{FillsAsSaid, FillsBy, StopsAsSaid, StopsBy};
 ghost use Rattle.worker_producer.specs.Confirmed.{FinishedConfirmed};
 
 mod byte_file;
@@ -26,31 +28,56 @@ mod json_records;
 mod kept_base;
 mod line_reader;
 mod lines;
+mod onto;
+mod open;
 mod options;
+mod said;
 mod split;
 
 use crate::byte_file::ByteFile;
-use crate::kept_base::{BaseError, find_base};
 use crate::lines::Lines;
-use crate::options::{Options, options_of};
+use crate::onto::find_settings;
+use crate::open::Open;
+use crate::options::{Options, apply_trim, options_of};
 use anyhow::{Error, Result, anyhow, bail};
-use command_lines::tell;
+use command_lines::tell_line;
 use redis_connection::{Connection, Wait};
 use redis_wire::Limits;
 use std::alloc::{AllocError, Global};
-use std::io::{ErrorKind, Read, Write};
+use std::io::{Read, Write};
 use std::process::ExitCode;
 use std::{env, io};
-use worker_journal::{LogError, SystemFile};
+use worker_journal::LogFile;
 use worker_producer::{
     ConfirmedError, Counts, FeedError, FillError, RequestError, RunError, Settings, Source, fill,
 };
 
 fn main(rt: HostRuntime) -> Result<ExitCode> {
-    let words = read_arguments(&rt)?;
-    match options_of(rt.alloc(), &words) {
-        Ok(options) => choose_exit(rt.alloc(), fill_by(&rt, options)),
-        Err(error) => Ok(tell(rt.alloc(), &rt, &error)?),
+    let (alloc, words) = (rt.alloc(), read_arguments(&rt)?);
+    let mut connection = Connection::new(alloc, rt.reader(), io::writer(&rt), Limits::default())?;
+    run_by_words(&rt, &rt, &words, &mut connection)
+}
+
+/// Fills over this connection, from a file of these files, as the words say. Returns the exit status: 0 if all lines are
+/// added, or the words ask for the help; 2 if they are wrong; else 1, or an error.
+fn run_by_words<
+    R: Read + Drop,
+    W: Write + Drop,
+    F: ByteFile + Drop,
+    D: LogFile + Drop,
+    O: Open<F, D>,
+    T: Eprint + AllocGlobal,
+>(rt: &T, files: &O, words: &[String], connection: &mut Connection<R, W>) -> Result<ExitCode>
+    ensures status { IfOk result (λ code. exit_status code ≤ 2) }
+    ensures filled { IfOk result (λ code. exit_status code ≡ 0 → IsTrue (asks_help (map string_bytes words.now))
+        ⊎ FillsAsSaid (O.content files.now) (map string_bytes words.now) connection.old connection.new) }
+    ensures unsent { IfOk result (λ code. exit_status code ≢ 0 → connection.new ≡ connection.old) }
+    ensures err { OnErr result ((connection.new ≡ connection.old)
+        ⊎ StopsAsSaid (O.content files.now) (map string_bytes words.now) connection.old connection.new) }
+{
+    match options_of(rt.alloc(), words) {
+        Ok(options) => choose_exit(rt.alloc(), fill_by(rt, files, connection, options)),
+        Err(error) => Ok(tell_line(rt.alloc(), rt, words, &error)?),
     }
 }
 
@@ -96,29 +123,46 @@ fn read_arguments(rt: &HostRuntime) -> Result<Vec<String>> {
     Ok(words)
 }
 
-/// Fills by these options, over standard input and output.
-fn fill_by(rt: &HostRuntime, options: Options) -> Result<()> {
+/// Fills by these options, over this connection, from the file of their path.
+fn fill_by<
+    R: Read + Drop,
+    W: Write + Drop,
+    F: ByteFile + Drop,
+    D: LogFile + Drop,
+    O: Open<F, D>,
+    T: Eprint + AllocGlobal,
+>(rt: &T, files: &O, connection: &mut Connection<R, W>, options: Options) -> Result<()>
+    ensures ok { OnOk result (FillsBy (O.content files.now) options connection.old connection.new) }
+    ensures err { OnErr result ((connection.new ≡ connection.old)
+        ⊎ StopsBy (O.content files.now) options connection.old connection.new) }
+{
     let Options {
-        mut settings,
+        settings,
+        trim,
         path,
         form,
         is_onto,
         wait,
     } = options;
-    let alloc = rt.alloc();
-    let mut lines = Lines::open(rt, &path, form)?;
-    let mut connection = Connection::new(alloc, rt.reader(), io::writer(rt), Limits::default())?;
-    let mut kept = None;
-    if is_onto {
-        let path = format!(in alloc; "{path}.onto")?;
-        let mut file = open_kept(rt, path.as_str())?;
-        settings = use_kept_base(alloc, settings, &mut file, &mut connection, path.as_str())?;
-        kept = Some(file);
-    }
-    let ended = fill_with(rt, &mut connection, settings, &mut lines, wait, is_onto);
+    let (alloc, path) = (rt.alloc(), path.as_str());
+    let file = open_lines(files, path)?;
+    let mut lines = Lines::new(alloc, file, form)?;
+    let settings = apply_trim(settings, trim);
+    let based = find_settings(alloc, files, connection, settings, path, is_onto)?;
+    let ended = fill_with(rt, connection, based.settings, &mut lines, wait, is_onto);
     // Until here no other run has the file of the base open.
-    drop(kept);
+    drop(based.kept);
     ended
+}
+
+/// Opens the file of this path, which has lines.
+fn open_lines<F: ByteFile, D: LogFile, O: Open<F, D>>(files: &O, path: &str) -> Result<F>
+    ensures { IfOk result (λ file. F.bytes file ≡ O.content files.now path.now) }
+{
+    match files.open_lines(path) {
+        Ok(file) => Ok(file),
+        Err(error) => Err(Error::from(error).context(format_args!("cannot open {path}"))),
+    }
 }
 
 /// Adds these lines over this connection, and shows the counts. A last line without a line end is an error.
@@ -155,35 +199,6 @@ fn fill_with<R: Read + Drop, W: Write + Drop, F: ByteFile + Drop, T: Eprint + Al
         bail!("the last line has no end, and is not added");
     }
     Ok(())
-}
-
-/// Opens the file of the base, for lines that are added after the stream's entries.
-fn open_kept(rt: &HostRuntime, path: &str) -> Result<SystemFile> {
-    match SystemFile::open(rt, path) {
-        Ok(file) => Ok(file),
-        Err(LogError::File(reason)) if reason.kind() == ErrorKind::WouldBlock => {
-            Err(anyhow!("another process has the file {path}"))
-        }
-        Err(error) => Err(Error::from(error).context(format_args!("cannot open {path}"))),
-    }
-}
-
-/// The settings with the base of the file.
-fn use_kept_base<R: Read + Drop, W: Write + Drop>(
-    alloc: Global,
-    settings: Settings,
-    file: &mut SystemFile,
-    connection: &mut Connection<R, W>,
-    path: &str,
-) -> Result<Settings> {
-    match find_base(alloc, file, connection, settings.key()) {
-        Ok(base) => Ok(settings.with_base(base)?),
-        Err(BaseError::OtherFile) => Err(anyhow!("{path} keeps no base of this stream")),
-        Err(BaseError::File(error)) => {
-            Err(Error::from(error).context(format_args!("cannot keep the base in {path}")))
-        }
-        Err(BaseError::Ask(error)) => Err(error.into()),
-    }
 }
 
 /// The error that not all lines were added. If records were not read, it is the fault of the file. If the stream has

@@ -1,14 +1,16 @@
 //! The arguments of the program.
-ghost use Rattle.std.specs.Prelude.{◌≡◌, ◌≤◌, IfOk, IfSome, None, length};
+ghost use Rattle.std.specs.Prelude.{◌≡◌, ◌≤◌, IfOk, IfSome, length, map, string_bytes};
 ghost use Rattle.clap.specs.Words.{found_of};
 ghost use Rattle.command_lines.specs.Numbers.{number_of};
-ghost use Rattle.stream_fill.specs.Options.{AreOptions, AreSettings, HasForm, HasMode, TrimsBy};
+ghost use Rattle.stream_fill.specs.Options.{AreOptions, AreOptionsOf, AreSettings, HasForm, HasMode, Trims, TrimsBy};
+ghost use Rattle.stream_fill.specs.Program.{trimmed};
 
 use crate::lines::Form;
+use crate::said::{OptionArity, says};
 use clap::{ArgMatches, Command, Error};
 use command_lines::{
-    Number, command, confirmation_of, flag, matches_of, name, refused, refused_value, text, wait,
-    word_of,
+    Line, Number, command, confirmation_of, flag, matches_of, name, refused, refused_value, text,
+    wait, word_of,
 };
 use redis_connection::Wait;
 use std::alloc::{AllocError, Global};
@@ -18,7 +20,10 @@ use worker_producer::Settings;
 /// The options of the program.
 #[derive(Drop)]
 pub struct Options {
+    /// The stream, the base and the most records at once. They trim nothing yet.
     pub settings: Settings,
+    /// How each XADD trims the stream, if it does.
+    pub trim: Option<StreamTrimStrategy>,
     pub path: String,
     pub form: Form,
     /// Whether the lines are added after the stream's entries.
@@ -27,7 +32,7 @@ pub struct Options {
     pub wait: Option<Wait>,
 }
 
-const BATCH: Number = Number {
+pub const BATCH: Number = Number {
     name: "batch",
     value: "RECORDS",
     help: "At most so many records at once, from 1 to 10000",
@@ -36,7 +41,7 @@ const BATCH: Number = Number {
     usual: "1000",
 };
 
-const BASE: Number = Number {
+pub const BASE: Number = Number {
     name: "base",
     value: "N",
     help: "The record of the line k has the id (N + k)-0",
@@ -52,13 +57,19 @@ const MINID: &str = "Each XADD keeps the entries from this id on, as its MINID";
 const APPROXIMATE: &str =
     "With --maxlen or --minid: as XADD's ~, it may keep somewhat more, which is faster";
 
-/// The options of these arguments.
+/// The options of these words, as clap reads them. If the words do not say so, they are refused.
 pub fn options_of(alloc: Global, words: &[String]) -> Result<Options, Error>
-    ensures { IfOk result (λ _. 2 ≤ length words.now) }
+    ensures least { IfOk result (λ _. 2 ≤ length words.now) }
+    ensures said { IfOk result (λ options. AreOptionsOf (map string_bytes words.now) options) }
 {
     let mut command = command_of(alloc)?;
     let matches = matches_of(alloc, &mut command, words, 2)?;
-    options_in(alloc, &mut command, &matches)
+    let options = options_in(alloc, &mut command, &matches)?;
+    let line = Line::read::<OptionArity>(alloc, words)?;
+    if !says(alloc, &line, &matches, &options)? {
+        return Err(refused(alloc, &mut command, &"the words do not say what was read"));
+    }
+    Ok(options)
 }
 
 /// The options of a command line, by its matches.
@@ -70,9 +81,11 @@ fn options_in(
     ensures { IfOk result (λ options. AreOptions (found_of matches.now) options) }
 {
     let settings = settings_of(alloc, command, matches)?;
+    let trim = trim_of(alloc, command, matches)?;
     let wait = confirmation_of(alloc, command, matches)?;
     Ok(Options {
         settings,
+        trim,
         path: String::from_str(alloc, word_of(matches, "FILE"))?,
         form: read_form(alloc, matches)?,
         is_onto: matches.get_flag("onto"),
@@ -113,6 +126,7 @@ fn read_form(alloc: Global, matches: &ArgMatches<'_>) -> Result<Form, AllocError
     Ok(Form::Text(field.into_bytes()))
 }
 
+/// The settings in a command line: those of KEY, `--base` and `--batch`.
 fn settings_of(
     alloc: Global,
     command: &mut Command<'_>,
@@ -123,22 +137,32 @@ fn settings_of(
     let key = String::from_str(alloc, word_of(matches, "KEY"))?;
     let base = BASE.of(matches).unwrap_or(0);
     let batch = BATCH.of(matches).unwrap_or(0) as usize;
-    let mode = mode_of(matches);
-    let trim = read_trim(alloc, command, matches, mode)?;
     match Settings::new(key, base, batch) {
-        Ok(settings) => Ok(apply_trim(settings, trim)),
+        Ok(settings) => Ok(settings),
         Err(error) => Err(refused(alloc, command, &error)),
     }
 }
 
 /// The settings with the trimming of each XADD, if any.
-fn apply_trim(settings: Settings, trim: Option<StreamTrimStrategy>) -> Settings
-    ensures { settings.trim ≡ None → result ≡ record settings { trim = trim } }
+pub fn apply_trim(settings: Settings, trim: Option<StreamTrimStrategy>) -> Settings
+    ensures { result ≡ trimmed trim settings }
 {
     match trim {
         Some(strategy) => settings.trim(strategy),
         None => settings,
     }
+}
+
+/// The trimming of each XADD in a command line, if any.
+fn trim_of(
+    alloc: Global,
+    command: &mut Command<'_>,
+    matches: &ArgMatches<'_>,
+) -> Result<Option<StreamTrimStrategy>, Error>
+    ensures { IfOk result (λ trim. Trims (found_of matches.now) trim) }
+{
+    let mode = mode_of(matches);
+    read_trim(alloc, command, matches, mode)
 }
 
 /// The trimming mode of `--maxlen` and `--minid`, exact or approximate.
