@@ -2,3 +2,4 @@
 mod RoundsLemmas
 mod GivenUpLemmas
 mod ProgramLemmas
+mod StatusLemmas

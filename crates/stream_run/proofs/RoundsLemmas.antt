@@ -6,7 +6,7 @@ use Rattle.worker_jobs.specs.Acknowledged.{Reaches, deleted_told}
 use Rattle.worker_jobs.specs.Acknowledged as jobs
 use Rattle.worker_jobs.specs.Talk.{Talk, committed, talked}
 use Rattle.worker.specs.DeadLetters.Besides.{Besides, BreaksBesides}
-use Rattle.stream_run.specs.Rounds.{Adds, Breaks, BreaksAdding, Rounds, RoundsAreReached, Stops, adds, besides, ends, turns}
+use Rattle.stream_run.specs.Rounds.{Adds, BreaksAdding, Rounds, RoundsAreReached, Stops, adds, besides, ends, turns}
 use Rattle.worker.specs.Pipelined.{FailsPipelined, WentPipelined}
 use Rattle.worker.specs.Session.{Standing, Turned}
 use Rattle.worker.specs.declared.error.RunError.{RunError}

@@ -1,7 +1,10 @@
--- The options of the program, by the matches of clap in its command line.
-use Rattle.std.specs.Prelude.{codes}
+-- The options of the program, by the matches of clap in its command line, and by its words.
+use Rattle.std.specs.Prelude.{◌≡◌, ◌∷◌, [], ℕ, List, codes, if◌then◌else◌, option_map, string_bytes}
+use Rattle.std.specs.Str.{bytes_eq}
 use Rattle.clap.specs.declared.parser.matches.Found.{Found}
-use Rattle.command_lines.specs.WorkerSettings.{AreSettings, GivesUp, IsFlag, IsWord}
+use Rattle.command_lines.specs.Said.{SaysSettings, number_and_text}
+use Rattle.command_lines.specs.WorkerSettings.{AreSettings, GivesUp, IsFlag, IsWord, parts_of}
+use Rattle.command_lines.specs.Words.{Text, is_given, last_pair, last_said, said, values_in}
 use Rattle.stream_run.specs.declared.options.Options.{Options}
 
 -- the worker's settings are those of the command line, it ends by `--until-empty` and gives up by `--dead`; the child
@@ -12,3 +15,28 @@ pub record AreOptions (found : Found) (o : Options) : Type 0 where
   pub dead : GivesUp found o.dead
   pub lines : IsWord found (codes "lines") o.lines
   pub replies : IsWord found (codes "replies") o.replies
+
+-- how many words after an option are its values
+abbrev pub number_of_values : Text → ℕ
+number_of_values option =
+    if bytes_eq option (codes "--until-empty") then 0
+    else if bytes_eq option (codes "--dead") then 2
+    else 1
+
+-- a line says these paths of the pipes
+pub record SaysPipes (line : List (Text × Text)) (o : Options) : Type 0 where
+  pub lines : string_bytes o.lines ≡ last_said (codes "/dev/fd/4") (said (codes "--lines") line)
+  pub replies : string_bytes o.replies ≡ last_said (codes "/dev/fd/3") (said (codes "--replies") line)
+
+-- a line says these options: its names are KEY, GROUP and CONSUMER, in order, and no more
+pub record Says (line : List (Text × Text)) (o : Options) : Type 0 where
+  pub names : said [] line ≡ string_bytes o.settings.key ∷ string_bytes o.settings.group
+      ∷ string_bytes o.settings.consumer ∷ []
+  pub settings : SaysSettings (codes "10") 1 10000 line o.settings
+  pub until_empty : o.until_empty ≡ is_given (codes "--until-empty") line
+  pub dead : option_map parts_of o.dead ≡ option_map number_and_text (last_pair (said (codes "--dead") line))
+  pub pipes : SaysPipes line o
+
+-- the options of these words
+abbrev pub AreOptionsOf : List Text → Options → Type 0
+AreOptionsOf words o = Says (values_in number_of_values [] 0 words) o

@@ -1,5 +1,6 @@
--- A run of the program, by its options.
+-- A run of the program, by its options and by its words.
 use Rattle.std.specs.Prelude.{◌≡◌, ◌⊎◌, ℕ, List, Bool, true, false, Option, None, Some, IsTrue, string_bytes}
+use Rattle.command_lines.specs.Words.{Text}
 use Rattle.redis_connection.specs.Link.{Link}
 use Rattle.model_server.specs.Group.Worker.{start}
 use Rattle.worker.specs.Machine.{machine_of}
@@ -10,7 +11,9 @@ use Rattle.worker.specs.declared.state.GroupState.TheVariants.{Unknown}
 use Rattle.worker.specs.declared.state.Settings.{Settings}
 use Rattle.worker.specs.declared.worker.Worker.{Worker}
 use Rattle.worker_jobs.specs.Talk.{Talk, over, talk_of}
+use Rattle.stream_run.specs.Options.{AreOptionsOf}
 use Rattle.stream_run.specs.Rounds.{Rounds, Stops}
+use Rattle.stream_run.specs.declared.options.Options.{Options}
 
 -- the settings of the worker: with `--dead` it requests entries that were delivered before one at a time
 abbrev pub settings_with : Option GiveUp → Settings → Settings
@@ -42,3 +45,45 @@ pub record EndsSo (settings : Settings) (until_empty : Bool) (old new : Link) (f
 -- it made rounds from here on, and stopped
 abbrev pub StopsSo : Settings → Link → Link → Standing Talk → Type 0
 StopsSo settings old new first = (last : Standing Talk) × Stops settings old new first last
+
+-- the same, and the talk with the child is over
+abbrev pub OverSo : Settings → Link → Link → Standing Talk → Type 0
+OverSo settings old new first = (last : Standing Talk) × Stops settings old new first last × (last.history ≡ over)
+
+-- `held` has the bytes that the pipe of a path to the child holds, and `coming` those that come from the child, each if
+-- they are known
+module _ (held coming : Text → Option Text) where
+  -- a new worker by these options, whose handler begins with what the pipes of their paths have
+  abbrev pub begun_by : Options → Standing Talk
+  begun_by o = newborn (settings_with o.dead o.settings)
+      (first_talk o.settings (held (string_bytes o.lines)) (coming (string_bytes o.replies)))
+
+  -- the run ended as these options ask
+  abbrev pub EndsBy : Options → Link → Link → Type 0
+  EndsBy o old new = EndsSo (settings_with o.dead o.settings) o.until_empty old new (begun_by o)
+
+  -- rounds were made by these options, and then an end
+  abbrev pub StopsBy : Options → Link → Link → Type 0
+  StopsBy o old new = StopsSo (settings_with o.dead o.settings) old new (begun_by o)
+
+  -- nothing was sent, or rounds were made by these options until the talk was over
+  abbrev pub ChildFailsBy : Options → Link → Link → Type 0
+  ChildFailsBy o old new = (new ≡ old) ⊎ OverSo (settings_with o.dead o.settings) old new (begun_by o)
+
+  -- the words say options, and the run ended as these ask
+  pub record EndsAsSaid (words : List Text) (old new : Link) : Type 0 where
+    pub options : Options
+    pub said : AreOptionsOf words options
+    pub ends : EndsBy options old new
+
+  -- the words say options, and rounds were made by these
+  pub record StopsAsSaid (words : List Text) (old new : Link) : Type 0 where
+    pub options : Options
+    pub said : AreOptionsOf words options
+    pub stops : StopsBy options old new
+
+  -- the words say options, and the child of these failed
+  pub record ChildFailsAsSaid (words : List Text) (old new : Link) : Type 0 where
+    pub options : Options
+    pub said : AreOptionsOf words options
+    pub fails : ChildFailsBy options old new

@@ -1,6 +1,7 @@
 //! The loop of the program: it sends commands and takes the replies.
-ghost use Rattle.std.specs.Prelude.{◌≡◌, ◌⊎◌, IfOk, IsTrue, None, OnErr, OnOk, false, string_bytes};
+ghost use Rattle.std.specs.Prelude.{◌≡◌, ◌⊎◌, IfErr, IfOk, IsTrue, None, OnErr, OnOk, false, string_bytes};
 ghost use Rattle.worker.specs.DeadLetters.Besides.{Besides, BreaksBesides, GivesUpNow};
+ghost use Rattle.stream_run.specs.Failures.{IsOfChild};
 ghost use Rattle.stream_run.specs.GivenUp.{GivesUpDead, GivesUpEach, dead_of, names_of_search};
 ghost use Rattle.stream_run.specs.Rounds.{Adds, BreaksAdding, Rounds, Stops};
 ghost use Rattle.worker.specs.Session.{standing_of};
@@ -46,6 +47,7 @@ pub fn drain<
     ensures err { OnErr result (Stops worker.old.settings connection.old connection.new
         (standing_of worker.old (⟦<Jobs<C, D> as Handler>⟧.history jobs.old))
         (standing_of worker.new (⟦<Jobs<C, D> as Handler>⟧.history jobs.new))) }
+    ensures child { IfErr result (λ failure. IsOfChild failure → IsTrue jobs.new.over) }
 {
     let mut asked = Asked::Nothing;
     for _ in 0..u64::MAX {
@@ -87,6 +89,7 @@ fn turn<
     ensures err { OnErr result (Stops worker.old.settings connection.old connection.new
         (standing_of worker.old (⟦<Jobs<C, D> as Handler>⟧.history jobs.old))
         (standing_of worker.new (⟦<Jobs<C, D> as Handler>⟧.history jobs.new))) }
+    ensures not_child { IfErr result (λ failure. IsOfChild failure → ⊥) }
 {
     look(
         rt.alloc(),
@@ -116,6 +119,7 @@ fn look<R: Read + Drop, W: Write + Drop>(
 ) -> Result<(), Failure>
     ensures ok { OnOk result (Besides connection.old connection.new) }
     ensures err { OnErr result (BreaksBesides connection.old connection.new) }
+    ensures not_child { IfErr result (λ failure. IsOfChild failure → ⊥) }
 {
     let Some(dead) = dead else {
         return Ok(());
@@ -135,6 +139,7 @@ fn send_added<R: Read + Drop, W: Write + Drop, C: SteadyRead + Drop, D: SteadyWr
     ensures ok { OnOk result (Adds connection.old connection.new) }
     ensures err { OnErr result (BreaksAdding connection.old connection.new) }
     ensures kept { jobs.new ≡ record jobs.old { outbox = jobs.new.outbox } }
+    ensures not_child { IfErr result (λ failure. IsOfChild failure → ⊥) }
 {
     match jobs.send_added(alloc, connection) {
         Ok(()) => Ok(()),
@@ -151,6 +156,7 @@ fn give_up_dead<R: Read + Drop, W: Write + Drop>(
 ) -> Result<(), Failure>
     ensures ok { OnOk result (GivesUpDead (dead_of dead.old) notes.now connection.old connection.new) }
     ensures err { OnErr result (BreaksBesides connection.old connection.new) }
+    ensures not_child { IfErr result (λ failure. IsOfChild failure → ⊥) }
 {
     match dead {
         Some(search) => give_up_each(alloc, connection, search, notes),
@@ -167,6 +173,7 @@ fn give_up_each<R: Read + Drop, W: Write + Drop>(
 ) -> Result<(), Failure>
     ensures ok { OnOk result (GivesUpEach (names_of_search search.old) notes.now connection.old connection.new) }
     ensures err { OnErr result (BreaksBesides connection.old connection.new) }
+    ensures not_child { IfErr result (λ failure. IsOfChild failure → ⊥) }
 {
     for note in notes {
         if note.dead {
@@ -187,6 +194,7 @@ fn give_up<R: Read + Drop, W: Write + Drop>(
         (string_bytes note.now.id) note.now.text.items connection.old connection.new) }
     ensures err { OnErr result (BreaksBesides connection.old connection.new) }
     ensures names { names_of_search search.new ≡ names_of_search search.old }
+    ensures not_child { IfErr result (λ failure. IsOfChild failure → ⊥) }
 {
     match search.give_up_now(alloc, connection, note.id.as_str(), &note.text) {
         Ok(()) => Ok(()),
@@ -211,6 +219,7 @@ fn round<R: Read + Drop, W: Write + Drop, C: SteadyRead + Drop, D: SteadyWrite +
     ensures err { OnErr result (Stops worker.old.settings connection.old connection.new
         (standing_of worker.old (⟦<Jobs<C, D> as Handler>⟧.history jobs.old))
         (standing_of worker.new (⟦<Jobs<C, D> as Handler>⟧.history jobs.new))) }
+    ensures not_child { IfErr result (λ failure. IsOfChild failure → ⊥) }
 {
     if together {
         match worker.round_pipelined(alloc, connection, jobs) {
@@ -250,6 +259,7 @@ fn settle<R: Read + Drop, W: Write + Drop, C: SteadyRead + Drop, D: SteadyWrite 
     ensures err { OnErr result (Stops worker.old.settings connection.old connection.new
         (standing_of worker.old (⟦<Jobs<C, D> as Handler>⟧.history jobs.old))
         (standing_of worker.new (⟦<Jobs<C, D> as Handler>⟧.history jobs.new))) }
+    ensures not_child { IfErr result (λ failure. IsOfChild failure → ⊥) }
 {
     if jobs.done <= jobs.committed {
         return Ok(());
@@ -269,14 +279,17 @@ fn ended<C: SteadyRead + Drop, D: SteadyWrite + Drop>(
     jobs: &Jobs<C, D>,
 ) -> Result<(), Failure>
     ensures replied { OnOk result ((jobs.now.fault ≡ None) × IsTrue jobs.now.over) }
+    ensures child { IfErr result (λ failure. IsOfChild failure → IsTrue jobs.now.over) }
 {
     let id = match &jobs.undone {
         Some(id) => id.as_str(),
         None => "",
     };
+    if !jobs.is_over() {
+        return Err(anyhow!("the entry {id} was asked of after a stop").into());
+    }
     match &jobs.fault {
-        None if jobs.is_over() => Ok(()),
-        None => Err(anyhow!("the entry {id} was asked of after a stop").into()),
+        None => Ok(()),
         Some(Fault::Memory) => Err(anyhow!("out of memory for the entry {id}").into()),
         Some(Fault::Unknown) => {
             let line = mask_bytes(alloc, jobs.reply())?;
@@ -291,7 +304,9 @@ fn ended<C: SteadyRead + Drop, D: SteadyWrite + Drop>(
 }
 
 /// The failure of a round.
-fn convert_run_error(error: RunError) -> Failure {
+fn convert_run_error(error: RunError) -> Failure
+    ensures { IsOfChild result → ⊥ }
+{
     match error {
         RunError::Receive {
             error: ConnectionError::Fault(WireFault::Overfull),

@@ -1,4 +1,6 @@
 //! Why the program failed.
+ghost use Rattle.stream_run.specs.Failures.{IsOfChild};
+
 use anyhow::Error;
 use std::alloc::AllocError;
 use std::io;
@@ -31,12 +33,16 @@ pub enum Failure {
 }
 
 impl From<Error> for Failure {
+    ghost from_gives = { λ _ failure. IsOfChild failure → ⊥ };
+
     fn from(error: Error) -> Failure {
         Failure::Other(error)
     }
 }
 
 impl From<AllocError> for Failure {
+    ghost from_gives = { λ _ failure. IsOfChild failure → ⊥ };
+
     fn from(error: AllocError) -> Failure {
         Failure::Other(Error::from(error))
     }

@@ -18,31 +18,34 @@
 //! arguments.
 #![tactic(auto)]
 
-ghost use Rattle.std.specs.Prelude.{◌≡◌, ◌⊎◌, IfErr, IfOk, OnErr, OnOk, is_some};
+ghost use Rattle.std.specs.Prelude.{◌≡◌, ◌≤◌, ◌⊎◌, IfErr, IfOk, IsOk, IsTrue, OnErr, OnOk, is_some, map, string_bytes};
 ghost use Rattle.std.specs.Process.{exit_status};
+ghost use Rattle.command_lines.specs.Words.{asks_help};
 ghost use Rattle.worker.specs.Session.{standing_of};
 ghost use Rattle.stream_run.specs.Failures.{IsOfChild};
-ghost use Rattle.stream_run.specs.Program.{EndsSo, IsNew, StopsSo, first_talk, newborn, settings_with};
+ghost use Rattle.stream_run.specs.Program.{ChildFailsAsSaid, ChildFailsBy, EndsAsSaid, EndsBy, EndsSo, IsNew, OverSo, StopsAsSaid, StopsBy, StopsSo, first_talk, newborn, settings_with};
 
 mod drain;
 mod failure;
 mod laws;
+mod open;
 mod options;
 mod report;
+mod said;
 
 use crate::drain::drain;
 use crate::failure::Failure;
+use crate::open::OpenPipes;
 use crate::options::{Options, options_of};
 use crate::report::Report;
-use anyhow::{Error, Result};
-use command_lines::tell;
+use anyhow::Result;
+use command_lines::tell_line;
 use redis_connection::Connection;
 use redis_wire::Limits;
 use std::alloc::{AllocError, Global};
-use std::env;
-use std::fs::{File, OpenOptions};
-use std::io::{self, BufReader, Read, Write};
+use std::io::{Read, Write};
 use std::process::ExitCode;
+use std::{env, io};
 use worker::dead_letters::{DeadLetterSearch, GiveUp};
 use worker::{Handler, Settings, Worker};
 use worker_jobs::{Jobs, SteadyRead, SteadyWrite};
@@ -51,10 +54,39 @@ use worker_jobs::{Jobs, SteadyRead, SteadyWrite};
 const CHILD_FAILED: u8 = 4;
 
 fn main(rt: HostRuntime) -> Result<ExitCode> {
-    let words = read_arguments(&rt)?;
-    match options_of(rt.alloc(), &words) {
-        Ok(options) => end_with(&rt, drain_by(&rt, options)),
-        Err(error) => Ok(tell(rt.alloc(), &rt, &error)?),
+    let (alloc, words) = (rt.alloc(), read_arguments(&rt)?);
+    let mut connection = Connection::new(alloc, rt.reader(), io::writer(&rt), Limits::default())?;
+    run_by_words(&rt, &rt, &words, &mut connection)
+}
+
+/// Drains over this connection, with a child at two of these pipes, as the words say. Returns the exit status: 0 if the
+/// loop ended as asked, or the words ask for the help; 2 if they are wrong; 4 if the child failed; else 1.
+fn run_by_words<
+    R: Read + Drop,
+    W: Write + Drop,
+    C: SteadyRead + Drop,
+    D: SteadyWrite + Drop,
+    P: OpenPipes<C, D>,
+    T: Eprint + AllocGlobal,
+>(rt: &T, pipes: &P, words: &[String], connection: &mut Connection<R, W>) -> Result<ExitCode>
+    ensures status { IfOk result (λ code. (exit_status code ≤ 2) ⊎ (exit_status code ≡ 4)) }
+    ensures ended { IfOk result (λ code. exit_status code ≡ 0 → IsTrue (asks_help (map string_bytes words.now))
+        ⊎ EndsAsSaid (P.held pipes.now) (P.coming pipes.now) (map string_bytes words.now)
+        connection.old connection.new) }
+    ensures failed { IfOk result (λ code. exit_status code ≡ 1 → (connection.new ≡ connection.old)
+        ⊎ StopsAsSaid (P.held pipes.now) (P.coming pipes.now) (map string_bytes words.now)
+        connection.old connection.new) }
+    ensures wrong { IfOk result (λ code. exit_status code ≡ 2 → connection.new ≡ connection.old) }
+    ensures child { IfOk result (λ code. exit_status code ≡ 4
+        → ChildFailsAsSaid (P.held pipes.now) (P.coming pipes.now) (map string_bytes words.now)
+        connection.old connection.new) }
+    ensures err { OnErr result ((connection.new ≡ connection.old)
+        ⊎ StopsAsSaid (P.held pipes.now) (P.coming pipes.now) (map string_bytes words.now)
+        connection.old connection.new) }
+{
+    match options_of(rt.alloc(), words) {
+        Ok(options) => end_with(rt, drain_by(rt, pipes, connection, options)),
+        Err(error) => Ok(tell_line(rt.alloc(), rt, words, &error)?),
     }
 }
 
@@ -63,6 +95,7 @@ fn end_with<T: Eprint + AllocGlobal>(rt: &T, ended: Result<(), Failure>) -> Resu
     ensures ok { OnOk ended (IfOk result (λ code. exit_status code ≡ 0)) }
     ensures child { IfErr ended (λ failure. IsOfChild failure → IfOk result (λ code. exit_status code ≡ 4)) }
     ensures other { IfErr ended (λ failure. (IsOfChild failure → ⊥) → IfOk result (λ code. exit_status code ≡ 1)) }
+    ensures given { OnOk ended (IsOk result) }
 {
     let Err(failure) = ended else {
         return Ok(ExitCode::SUCCESS);
@@ -103,17 +136,24 @@ fn read_arguments(rt: &HostRuntime) -> Result<Vec<String>> {
     Ok(words)
 }
 
-/// Drains by these options, over standard input and output.
-fn drain_by(rt: &HostRuntime, options: Options) -> Result<(), Failure> {
-    let replies = open_replies(rt, &options.replies)?;
-    let lines = open_lines(rt, &options.lines)?;
-    let mut connection = Connection::new(
-        rt.alloc(),
-        rt.reader(),
-        io::writer(rt),
-        Limits::default(),
-    )?;
-    drain_with(rt, &mut connection, replies, lines, options)
+/// Drains by these options, over this connection, with the child at the pipes of their paths.
+fn drain_by<
+    R: Read + Drop,
+    W: Write + Drop,
+    C: SteadyRead + Drop,
+    D: SteadyWrite + Drop,
+    P: OpenPipes<C, D>,
+    T: Eprint + AllocGlobal,
+>(rt: &T, pipes: &P, connection: &mut Connection<R, W>, options: Options) -> Result<(), Failure>
+    ensures ok { OnOk result (EndsBy (P.held pipes.now) (P.coming pipes.now) options connection.old connection.new) }
+    ensures err { OnErr result ((connection.new ≡ connection.old)
+        ⊎ StopsBy (P.held pipes.now) (P.coming pipes.now) options connection.old connection.new) }
+    ensures child { IfErr result (λ failure. IsOfChild failure
+        → ChildFailsBy (P.held pipes.now) (P.coming pipes.now) options connection.old connection.new) }
+{
+    let replies = pipes.open_replies(&options.replies)?;
+    let lines = pipes.open_lines(&options.lines)?;
+    drain_with(rt, connection, replies, lines, options)
 }
 
 /// Drains by these options, over this connection, with the child that writes these replies and reads these lines.
@@ -135,6 +175,9 @@ fn drain_with<
         (first_talk options.settings (D.contents lines) (C.remaining replies)))) }
     ensures err { OnErr result ((connection.new ≡ connection.old)
         ⊎ StopsSo (settings_with options.dead options.settings)
+        connection.old connection.new (newborn (settings_with options.dead options.settings)
+        (first_talk options.settings (D.contents lines) (C.remaining replies)))) }
+    ensures child { IfErr result (λ failure. IsOfChild failure → OverSo (settings_with options.dead options.settings)
         connection.old connection.new (newborn (settings_with options.dead options.settings)
         (first_talk options.settings (D.contents lines) (C.remaining replies)))) }
 {
@@ -197,6 +240,9 @@ fn make_run<
         (standing_of run.old.worker (⟦<Jobs<C, D> as Handler>⟧.history jobs.old))) }
     ensures err { OnErr result (StopsSo run.old.worker.settings connection.old connection.new
         (standing_of run.old.worker (⟦<Jobs<C, D> as Handler>⟧.history jobs.old))) }
+    ensures child { IfErr result (λ failure. IsOfChild failure
+        → OverSo run.old.worker.settings connection.old connection.new
+        (standing_of run.old.worker (⟦<Jobs<C, D> as Handler>⟧.history jobs.old))) }
 {
     let mut report = Report::new();
     let ended = drain(
@@ -226,27 +272,6 @@ fn count_letters(dead: &Option<DeadLetterSearch>) -> Option<u64> {
 fn show_report<T: Eprint>(rt: &T, report: &Report) -> Result<()> {
     eprintln!(rt; "{report}")?;
     Ok(())
-}
-
-/// Opens the pipe that the child writes to.
-fn open_replies(rt: &HostRuntime, path: &str) -> Result<BufReader<File>, Failure> {
-    match File::open(rt, path) {
-        Ok(file) => match BufReader::new(rt.alloc(), file) {
-            Ok(replies) => Ok(replies),
-            Err(error) => Err(Error::from(error).into()),
-        },
-        Err(error) => Err(Failure::Unopened(error)),
-    }
-}
-
-/// Opens the pipe that the child reads from.
-fn open_lines(rt: &HostRuntime, path: &str) -> Result<File, Failure> {
-    let mut options = OpenOptions::new();
-    options.write(true);
-    match options.open(rt, path) {
-        Ok(file) => Ok(file),
-        Err(error) => Err(Failure::Unopened(error)),
-    }
 }
 
 /// The search for entries that were delivered too often, if they are given up. Then entries that were delivered before

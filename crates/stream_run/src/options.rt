@@ -1,13 +1,14 @@
 //! The arguments of the program.
-ghost use Rattle.std.specs.Prelude.{◌≡◌, ◌≤◌, ◌⊎◌, length, IfErr, IfOk};
+ghost use Rattle.std.specs.Prelude.{◌≡◌, ◌≤◌, ◌⊎◌, length, map, string_bytes, IfErr, IfOk};
 ghost use Rattle.clap.specs.Words.{found_of, kind_of};
-ghost use Rattle.stream_run.specs.Options.{AreOptions};
+ghost use Rattle.stream_run.specs.Options.{AreOptions, AreOptionsOf};
 
+use crate::said::{OptionArity, says};
 use clap::error::ErrorKind;
 use clap::{ArgMatches, Command, Error};
 use command_lines::{
-    BLOCK, EVERY, IDLE, Number, command, dead, flag, from, give_up_of, matches_of, name,
-    settings_of, text, word_of,
+    BLOCK, EVERY, IDLE, Line, Number, command, dead, flag, from, give_up_of, matches_of, name,
+    refused, settings_of, text, word_of,
 };
 use std::alloc::{AllocError, Global};
 use worker::Settings;
@@ -26,12 +27,14 @@ pub struct Options {
     pub replies: String,
 }
 
-/// The default paths of the pipes.
-const LINES: &str = "/dev/fd/4";
+/// The default path of the pipe that the child reads from.
+pub const LINES: &str = "/dev/fd/4";
 
-const REPLIES: &str = "/dev/fd/3";
+/// The default path of the pipe that the child writes to.
+pub const REPLIES: &str = "/dev/fd/3";
 
-const COUNT: Number = Number {
+/// The largest number of entries of one request.
+pub const COUNT: Number = Number {
     name: "count",
     value: "ENTRIES",
     help: "At most so many entries at once, from 1 to 10000; they are acknowledged together",
@@ -40,13 +43,19 @@ const COUNT: Number = Number {
     usual: "10",
 };
 
-/// The options of these arguments.
+/// The options of these words, as clap reads them. If the words do not say so, they are refused.
 pub fn options_of(alloc: Global, words: &[String]) -> Result<Options, Error>
-    ensures { IfOk result (λ _. 3 ≤ length words.now) }
+    ensures least { IfOk result (λ _. 3 ≤ length words.now) }
+    ensures said { IfOk result (λ options. AreOptionsOf (map string_bytes words.now) options) }
 {
     let mut command = command_of(alloc)?;
     let matches = matches_of(alloc, &mut command, words, 3)?;
-    options_in(alloc, &mut command, &matches)
+    let options = options_in(alloc, &mut command, &matches)?;
+    let line = Line::read::<OptionArity>(alloc, words)?;
+    if !says(alloc, &line, &matches, &options)? {
+        return Err(refused(alloc, &mut command, &"the words do not say what was read"));
+    }
+    Ok(options)
 }
 
 /// The options of a command line, by its matches.
