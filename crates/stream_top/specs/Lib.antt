@@ -1,4 +1,6 @@
 -- What the program's contracts speak of.
+pub mod Options
+pub mod Asked
 pub mod Figures
 pub mod Json
 pub mod Measured

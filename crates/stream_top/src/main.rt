@@ -15,22 +15,27 @@
 //! it or, with status 1, only the reason. For a wrong argument it ends with 2. `--help` lists its arguments.
 #![tactic(auto)]
 
-ghost use Rattle.std.specs.Prelude.{◌≡◌, map, string_bytes, IfOk};
+ghost use Rattle.std.specs.Prelude.{◌≡◌, ◌<◌, ◌≤◌, ◌⊎◌, map, string_bytes, IfOk, IsErr, IsTrue, OnErr, OnOk};
 ghost use Rattle.std.specs.List.{list_any};
+ghost use Rattle.std.specs.Process.{exit_status};
+ghost use Rattle.command_lines.specs.Words.{asks_help};
 ghost use Rattle.redis_wire.specs.Reply.{answer};
+ghost use Rattle.stream_top.specs.Asked.{Ends, EndsAsSaid, Hears, Measures, MeasuresEach, MeasuresOften, SaysSome, WaitsFor, first_keys};
 ghost use Rattle.stream_top.specs.Measured.{each_once, is_no_such_key, is_of, key_of, milliseconds, name_of};
+ghost use Rattle.stream_top.specs.Options.{key_bytes, text_of};
 
 mod figures;
 mod json_text;
 mod open_metrics;
 mod options;
+mod said;
 
 use crate::figures::{StreamFigures, figures_of};
 use crate::json_text::json_text;
 use crate::open_metrics::metrics_text;
-use crate::options::{Form, Key, Task, task_of};
+use crate::options::{Form, Key, Task, Word, task_of, texts_of};
 use anyhow::{Result, anyhow};
-use command_lines::tell;
+use command_lines::tell_line;
 use redis_connection::{AskError, Connection};
 use redis_resp::{FromRedisValue, RawBytes, Value, from_redis_value};
 use redis_streams::{StreamInfoFullConsumer, StreamInfoFullGroup, StreamInfoFullReply};
@@ -56,7 +61,9 @@ fn ask<R: Read + Drop, W: Write + Drop>(
     alloc: Global,
     connection: &mut Connection<R, W>,
     key: &RawBytes,
-) -> Result<(Option<StreamInfoFullReply>, usize)> {
+) -> Result<(Option<StreamInfoFullReply>, usize)>
+    ensures { OnOk result (Measures key.now.0.items connection.old connection.new) }
+{
     connection.send(alloc, &"TIME")?;
     connection.send(alloc, &xinfo_stream_full_count(key, COUNT))?;
     let (seconds, micros): (usize, usize) = receive_as(alloc, connection)?;
@@ -74,7 +81,9 @@ fn wait<R: Read + Drop, W: Write + Drop>(
     connection: &mut Connection<R, W>,
     key: &RawBytes,
     last_id: &str,
-) -> Result<()> {
+) -> Result<()>
+    ensures { OnOk result (WaitsFor key.now.0.items connection.old connection.new) }
+{
     let options = StreamReadOptions::default().block(WAIT).count(1);
     let stream = (key, last_id);
     let command = xread_options(AtLeastOne::one(&stream), &options);
@@ -86,60 +95,116 @@ fn wait<R: Read + Drop, W: Write + Drop>(
 
 fn main(rt: HostRuntime) -> Result<ExitCode> {
     let alloc = rt.alloc();
-    let words = words_of(alloc, &rt)?;
-    match task_of(alloc, &words) {
-        Ok(task) => run(&rt, &task),
-        Err(error) => Ok(tell(alloc, &rt, &error)?),
+    let words = read_arguments(alloc, &rt)?;
+    let mut connection = Connection::new(alloc, rt.reader(), io::writer(&rt), Limits::default())?;
+    run_by_words(&rt, &words, &mut connection)
+}
+
+/// Does over this connection what the words say. Returns the exit status 0 if the task ended, or the words ask for the
+/// help. It is 2 if they are wrong, and 1 if memory ran out for them.
+fn run_by_words<R: Read + Drop, W: Write + Drop, P: Eprint + AllocGlobal>(
+    rt: &P,
+    words: &[Word],
+    connection: &mut Connection<R, W>,
+) -> Result<ExitCode>
+    ensures status { IfOk result (λ code. exit_status code ≤ 2) }
+    ensures ended { IfOk result (λ code. exit_status code ≡ 0 → IsTrue (asks_help (map text_of words.now))
+        ⊎ EndsAsSaid words.now connection.old connection.new) }
+    ensures wrong { IfOk result (λ code. 0 < exit_status code → connection.new ≡ connection.old) }
+    ensures err { OnErr result ((connection.new ≡ connection.old) ⊎ SaysSome words.now) }
+{
+    let texts = texts_of(rt.alloc(), words)?;
+    match task_of(rt.alloc(), words, &texts) {
+        Ok(task) => run(rt, connection, &task),
+        Err(error) => Ok(tell_line(rt.alloc(), rt, &texts, &error)?),
     }
 }
 
-/// Runs a task over standard input and output.
-fn run(rt: &HostRuntime, task: &Task) -> Result<ExitCode> {
-    let alloc = rt.alloc();
-    let mut connection = Connection::new(alloc, rt.reader(), io::writer(rt), Limits::default())?;
-    match task {
-        Task::Tables { key, rounds } => show_rounds(rt, &mut connection, key, *rounds)?,
-        Task::Text { keys, form } => {
-            let text = text_of(alloc, &mut connection, keys, *form)?;
-            eprint!(rt; "{text}")?;
-        }
-    }
+/// Does a task over this connection.
+fn run<R: Read + Drop, W: Write + Drop, P: Eprint + AllocGlobal>(
+    rt: &P,
+    connection: &mut Connection<R, W>,
+    task: &Task,
+) -> Result<ExitCode>
+    ensures status { IfOk result (λ code. exit_status code ≡ 0) }
+    ensures ended { OnOk result (Ends task.now connection.old connection.new) }
+{
+    do_task(rt, connection, task)?;
     Ok(ExitCode::SUCCESS)
 }
 
-/// Prints the table of a stream `rounds` times.
-fn show_rounds<R: Read + Drop, W: Write + Drop>(
-    rt: &HostRuntime,
+/// Prints the tables of a stream, or the figures of streams.
+fn do_task<R: Read + Drop, W: Write + Drop, P: Eprint + AllocGlobal>(
+    rt: &P,
+    connection: &mut Connection<R, W>,
+    task: &Task,
+) -> Result<()>
+    ensures { OnOk result (Ends task.now connection.old connection.new) }
+{
+    match task {
+        Task::Tables { key, rounds } => show_rounds(rt, connection, key, *rounds),
+        Task::Text { keys, form } => show_text(rt, connection, keys, *form),
+    }
+}
+
+/// Prints the table of a stream `rounds` times, and waits for an entry between two of them.
+fn show_rounds<R: Read + Drop, W: Write + Drop, P: Eprint + AllocGlobal>(
+    rt: &P,
     connection: &mut Connection<R, W>,
     key: &Key,
     rounds: u32,
-) -> Result<()> {
-    let alloc = rt.alloc();
-    for round in 0..rounds {
-        let (found, now) = ask(alloc, connection, &key.bytes)?;
-        let Some(stream) = found else {
-            return Err(anyhow!("the server replied {NO_SUCH_KEY}"));
-        };
-        let text = format_page(alloc, &key.name, &stream, now)?;
-        eprint!(rt; "{text}")?;
-        if round + 1 < rounds {
-            wait(alloc, connection, &key.bytes, &stream.last_generated_id)?;
-        }
+) -> Result<()>
+    ensures { OnOk result (MeasuresOften (key_bytes key.now) rounds connection.old connection.new) }
+{
+    let Some(before) = rounds.checked_sub(1) else {
+        return Ok(());
+    };
+    for _round in 0..before {
+        let last_id = show_table(rt, connection, key)?;
+        wait(rt.alloc(), connection, &key.bytes, &last_id)?;
     }
+    show_table(rt, connection, key)?;
     Ok(())
 }
 
-/// The figures of all keys, in this form.
-fn text_of<R: Read + Drop, W: Write + Drop>(
-    alloc: Global,
+/// Prints the table of a stream, and returns its last id.
+fn show_table<R: Read + Drop, W: Write + Drop, P: Eprint + AllocGlobal>(
+    rt: &P,
+    connection: &mut Connection<R, W>,
+    key: &Key,
+) -> Result<String>
+    ensures { OnOk result (Measures (key_bytes key.now) connection.old connection.new) }
+{
+    let alloc = rt.alloc();
+    let (found, now) = ask(alloc, connection, &key.bytes)?;
+    let Some(stream) = found else {
+        return Err(anyhow!("the server replied {NO_SUCH_KEY}"));
+    };
+    let text = format_page(alloc, &key.name, &stream, now)?;
+    eprint!(rt; "{text}")?;
+    Ok(stream.last_generated_id)
+}
+
+/// Prints the figures of all keys, in this form.
+fn show_text<R: Read + Drop, W: Write + Drop, P: Eprint + AllocGlobal>(
+    rt: &P,
     connection: &mut Connection<R, W>,
     keys: &[Key],
     form: Form,
-) -> Result<String> {
-    let streams = measure(alloc, connection, keys)?;
+) -> Result<()>
+    ensures { OnOk result (MeasuresEach (map key_bytes (first_keys keys.now)) connection.old connection.new) }
+{
+    let streams = measure(rt.alloc(), connection, keys)?;
+    let text = format_text(rt.alloc(), &streams, form)?;
+    eprint!(rt; "{text}")?;
+    Ok(())
+}
+
+/// The text of these figures, in this form.
+fn format_text(alloc: Global, streams: &[StreamFigures], form: Form) -> Result<String> {
     let text = match form {
-        Form::Json => json_line(alloc, &streams)?,
-        Form::OpenMetrics => metrics_text(alloc, &streams)?,
+        Form::Json => json_line(alloc, streams)?,
+        Form::OpenMetrics => metrics_text(alloc, streams)?,
     };
     match String::from_utf8(text) {
         Ok(text) => Ok(text),
@@ -160,7 +225,8 @@ fn measure<R: Read + Drop, W: Write + Drop>(
     connection: &mut Connection<R, W>,
     keys: &[Key],
 ) -> Result<Vec<StreamFigures>>
-    ensures { IfOk result (λ streams. map key_of streams.items ≡ each_once (map name_of keys.now)) }
+    ensures once { IfOk result (λ streams. map key_of streams.items ≡ each_once (map name_of keys.now)) }
+    ensures asked { OnOk result (MeasuresEach (map key_bytes (first_keys keys.now)) connection.old connection.new) }
 {
     let mut streams = Vec::new(alloc);
     for key in keys {
@@ -184,7 +250,8 @@ fn measure_one<R: Read + Drop, W: Write + Drop>(
     connection: &mut Connection<R, W>,
     key: &Key,
 ) -> Result<StreamFigures>
-    ensures { IfOk result (λ figures. string_bytes figures.key ≡ string_bytes key.now.name) }
+    ensures key { IfOk result (λ figures. string_bytes figures.key ≡ string_bytes key.now.name) }
+    ensures asked { OnOk result (Measures (key_bytes key.now) connection.old connection.new) }
 {
     let (found, now) = ask(alloc, connection, &key.bytes)?;
     let stream = match found {
@@ -195,13 +262,17 @@ fn measure_one<R: Read + Drop, W: Write + Drop>(
 }
 
 /// The arguments of the program.
-fn words_of<E: Env>(alloc: Global, rt: &E) -> Result<Vec<RawBytes>> {
+fn read_arguments<E: Env>(alloc: Global, rt: &E) -> Result<Vec<Word>> {
     let mut words = Vec::new(alloc);
     for number in 1..usize::MAX {
-        let Some(word) = word_at(alloc, rt, number)? else {
+        let Some(bytes) = word_at(alloc, rt, number)? else {
             break;
         };
-        words.push(RawBytes(word))?;
+        let text = escaped(alloc, &bytes)?;
+        words.push(Word {
+            bytes: RawBytes(bytes),
+            text,
+        })?;
     }
     Ok(words)
 }
@@ -226,7 +297,9 @@ fn word_at<E: Env>(alloc: Global, rt: &E, number: usize) -> Result<Option<Vec<u8
 fn receive_as<M: FromRedisValue, R: Read + Drop, W: Write + Drop>(
     alloc: Global,
     connection: &mut Connection<R, W>,
-) -> Result<M, AskError> {
+) -> Result<M, AskError>
+    ensures { OnOk result (Hears connection.old connection.new) }
+{
     let reply = connection.receive(alloc)?;
     Ok(from_reply::<M>(alloc, reply)?)
 }
@@ -242,7 +315,9 @@ fn milliseconds_of(seconds: usize, micros: usize) -> usize
 fn receive_of_key<R: Read + Drop, W: Write + Drop>(
     alloc: Global,
     connection: &mut Connection<R, W>,
-) -> Result<Option<Value>, AskError> {
+) -> Result<Option<Value>, AskError>
+    ensures { OnOk result (Hears connection.old connection.new) }
+{
     let reply = connection.receive(alloc)?;
     if is_no_such_key(&reply) {
         return Ok(None);

@@ -1,12 +1,21 @@
 //! The arguments of the program.
-ghost use Rattle.std.specs.Prelude.{◌≡◌, ◌≤◌, length, IfOk};
+ghost use Rattle.std.specs.Prelude.{◌≡◌, ◌≤◌, length, map, string_bytes, IfOk};
+ghost use Rattle.stream_top.specs.Options.{IsTaskOf, text_of};
 
-use crate::escaped;
+use crate::said::{OptionArity, says};
 use clap::builder::ValueParser;
 use clap::{Arg, ArgAction, ArgGroup, ArgMatches, Command, Error};
-use command_lines::{command, flag, matches_of, word_of};
+use command_lines::{Line, command, flag, matches_of, refused, word_of};
 use redis_resp::RawBytes;
 use std::alloc::{AllocError, Global};
+
+/// A word of the command line.
+#[derive(Drop)]
+pub struct Word {
+    pub bytes: RawBytes,
+    /// The text that it is shown as. Words that differ never have the same text.
+    pub text: String,
+}
 
 /// What the program is to do.
 #[derive(Drop)]
@@ -48,27 +57,44 @@ const JSON: &str = "json";
 
 const OPEN_METRICS: &str = "openmetrics";
 
-/// The task of these arguments.
-pub fn task_of(alloc: Global, words: &[RawBytes]) -> Result<Task, Error>
-    ensures { IfOk result (λ _. 1 ≤ length words.now) }
+/// The task of these words, whose texts are these, as clap reads them. If the texts do not say so, they are refused.
+pub fn task_of(alloc: Global, words: &[Word], texts: &[String]) -> Result<Task, Error>
+    ensures least { IfOk result (λ _. 1 ≤ length texts.now) }
+    ensures said { IfOk result (λ task. IsTaskOf words.now (map string_bytes texts.now) task) }
 {
-    let texts = texts_of(alloc, words)?;
     let mut command = command_of(alloc)?;
-    let matches = matches_of(alloc, &mut command, &texts, 1)?;
+    let task = read_task(alloc, &mut command, words, texts)?;
+    let line = Line::read::<OptionArity>(alloc, texts)?;
+    if !says(alloc, &line, words, &task)? {
+        return Err(refused(alloc, &mut command, &"the words do not say what was read"));
+    }
+    Ok(task)
+}
+
+/// The task of these words, as clap reads their texts.
+fn read_task<'a>(
+    alloc: Global,
+    command: &mut Command<'a>,
+    words: &[Word],
+    texts: &'a [String],
+) -> Result<Task, Error>
+    ensures { IfOk result (λ _. 1 ≤ length texts.now) }
+{
+    let matches = matches_of(alloc, command, texts, 1)?;
     let Some(form) = form_of(&matches) else {
-        return tables_of(alloc, words, &texts);
+        return tables_of(alloc, words, texts);
     };
-    let keys = keys_of(alloc, words, &texts, &matches)?;
+    let keys = keys_of(alloc, words, &matches)?;
     Ok(Task::Text { keys, form })
 }
 
-/// The arguments as texts. Two arguments never have the same text.
-fn texts_of(alloc: Global, words: &[RawBytes]) -> Result<Vec<String>, AllocError>
-    ensures { IfOk result (λ texts. length texts.items ≡ length words.now) }
+/// The texts of these words.
+pub fn texts_of(alloc: Global, words: &[Word]) -> Result<Vec<String>, AllocError>
+    ensures { IfOk result (λ texts. map string_bytes texts.items ≡ map text_of words.now) }
 {
     let mut texts = Vec::new(alloc);
     for word in words {
-        texts.push(escaped(alloc, &word.0)?)?;
+        texts.push(word.text.clone()?)?;
     }
     Ok(texts)
 }
@@ -109,30 +135,24 @@ fn form_of(matches: &ArgMatches<'_>) -> Option<Form> {
 /// The keys in the arguments, in order.
 fn keys_of(
     alloc: Global,
-    words: &[RawBytes],
-    texts: &[String],
+    words: &[Word],
     matches: &ArgMatches<'_>,
 ) -> Result<Vec<Key>, AllocError> {
     let mut keys = Vec::new(alloc);
     if let Some(names) = matches.get_strs(KEY) {
         for name in names {
-            keys.push(key_of(alloc, words, texts, name)?)?;
+            keys.push(key_of(alloc, words, name)?)?;
         }
     }
     Ok(keys)
 }
 
 /// The key whose text is this one.
-fn key_of(
-    alloc: Global,
-    words: &[RawBytes],
-    texts: &[String],
-    name: &str,
-) -> Result<Key, AllocError> {
+fn key_of(alloc: Global, words: &[Word], name: &str) -> Result<Key, AllocError> {
     let mut bytes = Vec::new(alloc);
-    for (word, text) in words.iter().zip(texts) {
-        if text.as_str() == name {
-            bytes = word.0.clone()?;
+    for word in words {
+        if word.text.as_str() == name {
+            bytes = word.bytes.0.clone()?;
         }
     }
     Ok(Key {
@@ -141,14 +161,16 @@ fn key_of(
     })
 }
 
-// The task without a format: a key, and how many tables of it are printed.
-fn tables_of(alloc: Global, words: &[RawBytes], texts: &[String]) -> Result<Task, Error> {
+/// The task without a format: a key, and how many tables of it are printed.
+fn tables_of(alloc: Global, words: &[Word], texts: &[String]) -> Result<Task, Error>
+    ensures { IfOk result (λ _. 1 ≤ length texts.now) }
+{
     let mut command = command(alloc, PROGRAM, "")
         .override_usage(USAGE)
         .arg(Arg::new(alloc, KEY).required(true).action(ArgAction::Set))?
         .arg(rounds(alloc))?;
     let matches = matches_of(alloc, &mut command, texts, 2)?;
-    let key = key_of(alloc, words, texts, word_of(&matches, KEY))?;
+    let key = key_of(alloc, words, word_of(&matches, KEY))?;
     let rounds = matches.get_one::<u32>(ROUNDS).unwrap_or(0);
     Ok(Task::Tables { key, rounds })
 }
