@@ -1,3 +1,7 @@
 -- Lemmas.
+mod ColumnsLemmas
+mod FormLemmas
 mod ForwardLemmas
 mod LookLemmas
+mod ProgramLemmas
+mod SaidLemmas

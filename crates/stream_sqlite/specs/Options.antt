@@ -1,10 +1,14 @@
--- What the program is to do, by what clap parsed from its command line.
-use Rattle.std.specs.Prelude.{◌≡◌, ◌≢◌, [], ℕ, IfSome, List, None, Option, Some, String, codes, option_map, string_bytes}
+-- What the program is to do, by what clap parsed from its command line, and by its words.
+use Rattle.std.specs.Prelude.{◌≡◌, ◌≢◌, ◌∷◌, ◌-◌, [], ℕ, IfSome, List, None, Option, Some, String, codes, if◌then◌else◌, length, map, option_map, slice_get, string_bytes}
+use Rattle.std.specs.Str.{bytes_eq}
 use Rattle.std.specs.declared.alloc.Global.{Global}
 use Rattle.clap.specs.Words.{first_value}
 use Rattle.clap.specs.declared.parser.matches.Found.{Found}
-use Rattle.command_lines.specs.WorkerSettings.{AreSettings, GivesUp, IsFlag, IsWord, word_in}
+use Rattle.command_lines.specs.Said.{SaysSettings, number_and_text}
+use Rattle.command_lines.specs.WorkerSettings.{AreSettings, GivesUp, IsFlag, IsWord, parts_of, word_in}
+use Rattle.command_lines.specs.Words.{Text, is_given, last_pair, last_said, said, values_in}
 use Rattle.worker.specs.declared.dead_letters.search.GiveUp.{GiveUp}
+use Rattle.stream_sqlite.specs.Columns.{columns_of, shape_of}
 use Rattle.stream_sqlite.specs.declared.options.Options.{Options}
 
 -- `--forward TARGET` forwards entries to a stream other than KEY
@@ -28,3 +32,39 @@ pub record AreOptions (found : Found) (o : Options) : Type 0 where
   pub forward : ForwardsTo found o.forward
   pub dead : GivesUp found o.dead
   pub other : IsOtherThan found o.dead
+
+-- how many words after an option are its values
+abbrev pub number_of_values : Text → ℕ
+number_of_values option =
+    if bytes_eq option (codes "--until-empty") then 0
+    else if bytes_eq option (codes "--dead") then 2
+    else 1
+
+-- the last value, if there is one
+abbrev pub last_given : List Text → Option Text
+last_given values = slice_get values (length values - 1)
+
+-- a line says this table, its columns, and the stream that entries are forwarded to
+pub record SaysTable (line : List (Text × Text)) (o : Options) : Type 0 where
+  pub table : string_bytes o.table ≡ last_said (codes "entries") (said (codes "--table") line)
+  pub columns : Some (map shape_of o.columns.items) ≡ columns_of (last_given (said (codes "--columns") line))
+  pub forward : option_map string_bytes o.forward ≡ last_given (said (codes "--forward") line)
+
+-- entries are forwarded to another stream than KEY, and than that of dead letters
+pub record IsApart (o : Options) : Type 0 where
+  pub key : IfSome o.forward (λ t. string_bytes t ≢ string_bytes o.settings.key)
+  pub dead : IfSome o.forward (λ t. IfSome o.dead (λ g. string_bytes g.stream ≢ string_bytes t))
+
+-- a line says these options: its names are KEY, GROUP, CONSUMER and FILE, in order
+pub record Says (line : List (Text × Text)) (o : Options) : Type 0 where
+  pub names : said [] line ≡ string_bytes o.settings.key ∷ string_bytes o.settings.group
+      ∷ string_bytes o.settings.consumer ∷ string_bytes o.path ∷ []
+  pub settings : SaysSettings (codes "1000") 1 10000 line o.settings
+  pub table : SaysTable line o
+  pub until_empty : o.until_empty ≡ is_given (codes "--until-empty") line
+  pub dead : option_map parts_of o.dead ≡ option_map number_and_text (last_pair (said (codes "--dead") line))
+  pub apart : IsApart o
+
+-- the options of these words
+abbrev pub AreOptionsOf : List Text → Options → Type 0
+AreOptionsOf words o = Says (values_in number_of_values [] 0 words) o

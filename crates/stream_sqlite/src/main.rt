@@ -22,39 +22,75 @@
 //! `--until-empty`, 2 for a wrong argument, and otherwise 1, with the reason. `--help` lists its arguments.
 #![tactic(auto)]
 
-ghost use Rattle.std.specs.Prelude.{◌≡◌, IfOk, IsErr, IsOk, OnErr, OnOk};
+ghost use Rattle.std.specs.Prelude.{◌≡◌, ◌<◌, ◌≤◌, ◌⊎◌, IfOk, IsErr, IsOk, IsTrue, Ok, OnErr, OnOk, is_some, map, string_bytes};
 ghost use Rattle.std.specs.Process.{exit_status};
+ghost use Rattle.command_lines.specs.Words.{asks_help};
+ghost use Rattle.model_workers.specs.Loops.Loop.{Drains, Loops};
+ghost use Rattle.stream_sqlite.specs.Program.{EndsAsSaid, EndsBy, IsRun, RunsAsSaid, RunsBy, SendsAll, SendsSome, settings_with};
 
 mod drain;
 mod masked;
+mod open;
 mod options;
+mod said;
 
 use crate::drain::forward::forward;
 use crate::drain::{Drained, drain};
 use crate::masked::Masked;
-use crate::options::{Options, TABLE, options_of};
-use anyhow::{Context, Error, Result, anyhow};
-use command_lines::{Counts, tell};
+use crate::open::Open;
+use crate::options::{Options, options_of};
+use anyhow::{Error, Result};
+use command_lines::{Counts, tell_line};
 use redis_connection::Connection;
 use redis_wire::Limits;
-use sqlite::{Alter, File as DatabaseFile, FileStore};
+use sqlite::Alter;
 use std::alloc::{AllocError, Global};
-use std::fs::File;
 use std::io::{Read, Write};
-use std::os::unix::fs::FileExt;
 use std::process::ExitCode;
 use std::{env, io};
 use worker::dead_letters::{DeadLetterSearch, GiveUp};
-use worker::{Settings, Worker};
-use worker_sqlite::{Form, OUTBOX, OUTBOX_CREATE, OpenError, SqliteOutbox, SqliteTable};
-use worker_table::row_table::{Column, Kind, Table, TableError, WithOutbox};
-use worker_table::{Forwarding, Rows, target_of};
+use worker::{Handler, Settings, Worker};
+use worker_sqlite::{SqliteOutbox, SqliteTable};
+use worker_table::row_table::{Table, WithOutbox};
+use worker_table::{Forwarding, Rows};
 
 fn main(rt: HostRuntime) -> Result<ExitCode> {
-    let words = words_of(&rt)?;
-    match options_of(rt.alloc(), &words) {
-        Ok(options) => end_with(rt.alloc(), drain_by(&rt, options)),
-        Err(error) => Ok(tell(rt.alloc(), &rt, &error)?),
+    let (alloc, words) = (rt.alloc(), read_arguments(&rt)?);
+    let mut connection = Connection::new(alloc, rt.reader(), io::writer(&rt), Limits::default())?;
+    run_over_sqlite(&rt, &rt, &words, &mut connection)
+}
+
+/// Drains over this connection, into a table of SQLite, as the words say: `run_by_words` with the types of that table.
+fn run_over_sqlite<
+    R: Read + Drop,
+    W: Write + Drop,
+    S: Alter + Drop,
+    F: Open<SqliteTable<S>, SqliteOutbox<S>>,
+    P: Eprint + AllocGlobal,
+>(rt: &P, files: &F, words: &[String], connection: &mut Connection<R, W>) -> Result<ExitCode> {
+    run_by_words(rt, files, words, connection)
+}
+
+/// Drains over this connection, into a table of these files, as the words say. Returns the exit status 0 if the loop
+/// ended as asked, or the words ask for the help. It is 2 if they are wrong, and 1 if memory ran out for them.
+fn run_by_words<
+    R: Read + Drop,
+    W: Write + Drop,
+    T: Table + Drop,
+    O: WithOutbox + Drop,
+    F: Open<T, O>,
+    P: Eprint + AllocGlobal,
+>(rt: &P, files: &F, words: &[String], connection: &mut Connection<R, W>) -> Result<ExitCode>
+    ensures status { IfOk result (λ code. exit_status code ≤ 2) }
+    ensures ended { IfOk result (λ code. exit_status code ≡ 0 → IsTrue (asks_help (map string_bytes words.now))
+        ⊎ EndsAsSaid (F.rows files.now) (map string_bytes words.now) connection.old connection.new) }
+    ensures wrong { IfOk result (λ code. 0 < exit_status code → connection.new ≡ connection.old) }
+    ensures err { OnErr result ((connection.new ≡ connection.old)
+        ⊎ RunsAsSaid (F.rows files.now) (map string_bytes words.now) connection.old connection.new) }
+{
+    match options_of(rt.alloc(), words) {
+        Ok(options) => end_with(rt.alloc(), drain_by(rt, files, connection, options)),
+        Err(error) => Ok(tell_line(rt.alloc(), rt, words, &error)?),
     }
 }
 
@@ -88,7 +124,7 @@ fn mask_text(alloc: Global, error: &Error) -> Result<Option<String>, AllocError>
 }
 
 /// The arguments of the program.
-fn words_of(rt: &HostRuntime) -> Result<Vec<String>> {
+fn read_arguments(rt: &HostRuntime) -> Result<Vec<String>> {
     let mut words = Vec::new(rt.alloc());
     for word in env::args(rt)?.skip(1) {
         words.push(word)?;
@@ -96,8 +132,27 @@ fn words_of(rt: &HostRuntime) -> Result<Vec<String>> {
     Ok(words)
 }
 
-/// Drains as these options say, over standard input and output.
-fn drain_by(rt: &HostRuntime, options: Options) -> Result<Drained> {
+/// What a worker is to do, whatever its table.
+#[derive(Drop)]
+struct Work {
+    settings: Settings,
+    dead: Option<GiveUp>,
+    until_empty: bool,
+}
+
+/// Drains by these options, over this connection, into the table of their names.
+fn drain_by<
+    R: Read + Drop,
+    W: Write + Drop,
+    T: Table + Drop,
+    O: WithOutbox + Drop,
+    F: Open<T, O>,
+    P: Eprint + AllocGlobal,
+>(rt: &P, files: &F, connection: &mut Connection<R, W>, options: Options) -> Result<Drained>
+    ensures ok { OnOk result (EndsBy (F.rows files.now) options connection.old connection.new) }
+    ensures err { OnErr result ((connection.new ≡ connection.old)
+        ⊎ RunsBy (F.rows files.now) options connection.old connection.new) }
+{
     let Options {
         settings,
         path,
@@ -107,256 +162,250 @@ fn drain_by(rt: &HostRuntime, options: Options) -> Result<Drained> {
         forward,
         dead,
     } = options;
-    say_of_log(rt, &path)?;
-    let opened = table_at(rt, &path, form_of(rt.alloc(), &table, &columns)?)?;
-    let forwards = forward.is_some();
-    let (mut table, ended) = match forward {
+    let opened = files.open(&path, &table, &columns)?;
+    let work = Work {
+        settings,
+        dead,
+        until_empty,
+    };
+    match forward {
         Some(target) => {
-            let outbox = outbox_beside(rt, &path, opened)?;
-            forward_into(rt, settings, outbox, columns, target, dead, until_empty)
+            let outbox = files.with_outbox(&path, opened)?;
+            let rows = Forwarding::new(rt.alloc(), outbox, columns, target);
+            forward_into(rt, files, connection, &path, rows, work)
         }
-        None => drain_into(rt, settings, opened, columns, dead, until_empty),
-    };
-    let said = if forwards {
-        Ok(())
-    } else {
-        say_what_waits(rt, &mut table)
-    };
-    let closed = table.close();
+        None => {
+            let rows = Rows::with_columns(rt.alloc(), opened, columns);
+            drain_into(rt, files, connection, &path, rows, work)
+        }
+    }
+}
+
+/// Drains into the table of these rows, in the file of this path, and closes it.
+fn drain_into<
+    R: Read + Drop,
+    W: Write + Drop,
+    T: Table + Drop,
+    O: WithOutbox + Drop,
+    F: Open<T, O>,
+    P: Eprint + AllocGlobal,
+>(
+    rt: &P,
+    files: &F,
+    connection: &mut Connection<R, W>,
+    path: &str,
+    rows: Rows<T>,
+    work: Work,
+) -> Result<Drained>
+    ensures ended { IfOk result (λ _. IsTrue work.until_empty) }
+    ensures ok { OnOk result (IsRun (settings_with work.dead work.settings) Loops
+        (⟦<Rows<T> as Handler>⟧.history rows) connection.old connection.new) }
+    ensures err { OnErr result ((connection.new ≡ connection.old)
+        ⊎ IsRun (settings_with work.dead work.settings) Drains
+        (⟦<Rows<T> as Handler>⟧.history rows) connection.old connection.new) }
+{
+    let mut rows = rows;
+    let ended = drain_over(rt, connection, &mut rows, work);
+    let mut table = rows.into_table();
+    let shown = files.show_waiting(&mut table);
+    let closed = files.close(path, table);
+    end_after(ended, shown, closed)
+}
+
+/// Drains into the table of these rows, in the file of this path, forwards the entries, and closes it.
+fn forward_into<
+    R: Read + Drop,
+    W: Write + Drop,
+    T: Table + Drop,
+    O: WithOutbox + Drop,
+    F: Open<T, O>,
+    P: Eprint + AllocGlobal,
+>(
+    rt: &P,
+    files: &F,
+    connection: &mut Connection<R, W>,
+    path: &str,
+    rows: Forwarding<O>,
+    work: Work,
+) -> Result<Drained>
+    ensures ended { IfOk result (λ _. IsTrue work.until_empty) }
+    ensures ok { OnOk result (SendsAll (settings_with work.dead work.settings)
+        (⟦<Forwarding<O> as Handler>⟧.history rows) connection.old connection.new) }
+    ensures err { OnErr result ((connection.new ≡ connection.old)
+        ⊎ SendsSome (settings_with work.dead work.settings)
+        (⟦<Forwarding<O> as Handler>⟧.history rows) connection.old connection.new) }
+{
+    let mut rows = rows;
+    let ended = forward_over(rt, connection, &mut rows, work);
+    let table = files.without_outbox(rows.into_table());
+    let closed = files.close(path, table);
+    end_after(ended, Ok(()), closed)
+}
+
+/// How a run ended, after what waits was shown and its table was closed. Its own error comes first.
+fn end_after(ended: Result<Drained>, shown: Result<()>, closed: Result<()>) -> Result<Drained>
+    ensures { IfOk result (λ drained. ended ≡ Ok drained) }
+{
     let drained = ended?;
-    said?;
-    closed.context(format_args!("cannot close {path}"))?;
+    shown?;
+    closed?;
     Ok(drained)
-}
-
-/// Drains into this table, and returns it.
-fn drain_into<S: Alter + Drop>(
-    rt: &HostRuntime,
-    settings: Settings,
-    table: SqliteTable<S>,
-    columns: Vec<Column>,
-    dead: Option<GiveUp>,
-    until_empty: bool,
-) -> (SqliteTable<S>, Result<Drained>) {
-    let mut rows = Rows::with_columns(rt.alloc(), table, columns);
-    let ended = drain_over(
-        rt,
-        rt.reader(),
-        io::writer(rt),
-        settings,
-        &mut rows,
-        dead,
-        until_empty,
-    );
-    (rows.into_table(), ended)
-}
-
-/// Drains into the table of this outbox, which it returns, and forwards the entries to this stream.
-fn forward_into<S: Alter + Drop>(
-    rt: &HostRuntime,
-    settings: Settings,
-    outbox: SqliteOutbox<S>,
-    columns: Vec<Column>,
-    target: String,
-    dead: Option<GiveUp>,
-    until_empty: bool,
-) -> (SqliteTable<S>, Result<Drained>) {
-    let mut rows = Forwarding::new(rt.alloc(), outbox, columns, target);
-    let ended = forward_over(
-        rt,
-        rt.reader(),
-        io::writer(rt),
-        settings,
-        &mut rows,
-        dead,
-        until_empty,
-    );
-    (rows.into_table().into_table(), ended)
 }
 
 /// Drains over this connection, and prints what was done.
 fn drain_over<R: Read + Drop, W: Write + Drop, T: Table + Drop, P: Eprint + AllocGlobal>(
     rt: &P,
-    reader: R,
-    writer: W,
-    settings: Settings,
+    connection: &mut Connection<R, W>,
     rows: &mut Rows<T>,
-    dead: Option<GiveUp>,
-    until_empty: bool,
-) -> Result<Drained> {
-    let alloc = rt.alloc();
-    let mut settings = settings;
-    let mut connection = Connection::new(alloc, reader, writer, Limits::default())?;
-    let mut dead = dead_of(alloc, &mut settings, dead)?;
-    rows.leave_unfit(dead.is_some());
-    let mut worker = Worker::new(alloc, settings);
-    let mut counts = Counts::new();
-    let ended = drain(
-        rt,
-        &mut connection,
-        &mut worker,
-        rows,
-        &mut counts,
-        &mut dead,
-        until_empty,
-    );
-    counts.letters = dead.map(|dead| dead.letters());
-    eprintln!(rt; "{counts}")?;
-    ended
+    work: Work,
+) -> Result<Drained>
+    ensures ended { IfOk result (λ _. IsTrue work.until_empty) }
+    ensures ok { OnOk result (IsRun (settings_with work.dead work.settings) Loops
+        (⟦<Rows<T> as Handler>⟧.history rows.old) connection.old connection.new) }
+    ensures err { OnErr result ((connection.new ≡ connection.old)
+        ⊎ IsRun (settings_with work.dead work.settings) Drains
+        (⟦<Rows<T> as Handler>⟧.history rows.old) connection.old connection.new) }
+{
+    let mut run = begin_run(rt.alloc(), work)?;
+    rows.leave_unfit(run.dead.is_some());
+    make_run(rt, connection, rows, &mut run)
 }
 
-/// The dead letters of the options, if entries are given up. Then redelivered entries are requested one at a
-/// time.
-fn dead_of(
+/// Drains over this connection, forwards the entries, and prints what was done.
+fn forward_over<R: Read + Drop, W: Write + Drop, T: WithOutbox + Drop, P: Eprint + AllocGlobal>(
+    rt: &P,
+    connection: &mut Connection<R, W>,
+    rows: &mut Forwarding<T>,
+    work: Work,
+) -> Result<Drained>
+    ensures ended { IfOk result (λ _. IsTrue work.until_empty) }
+    ensures ok { OnOk result (SendsAll (settings_with work.dead work.settings)
+        (⟦<Forwarding<T> as Handler>⟧.history rows.old) connection.old connection.new) }
+    ensures err { OnErr result ((connection.new ≡ connection.old)
+        ⊎ SendsSome (settings_with work.dead work.settings)
+        (⟦<Forwarding<T> as Handler>⟧.history rows.old) connection.old connection.new) }
+{
+    let mut run = begin_run(rt.alloc(), work)?;
+    rows.leave_unfit(run.dead.is_some());
+    make_run_forwarding(rt, connection, rows, &mut run)
+}
+
+/// A run of the program before its first command.
+#[derive(Drop)]
+struct Run {
+    worker: Worker,
+    counts: Counts,
+    dead: Option<DeadLetterSearch>,
+    until_empty: bool,
+}
+
+/// A run that does this work.
+fn begin_run(alloc: Global, work: Work) -> Result<Run>
+    ensures settings { IfOk result (λ run. run.worker.settings ≡ settings_with work.dead work.settings) }
+    ensures until_empty { IfOk result (λ run. run.until_empty ≡ work.until_empty) }
+    ensures dead { IfOk result (λ run. is_some run.dead ≡ is_some work.dead) }
+{
+    let mut settings = work.settings;
+    let dead = make_search(alloc, &mut settings, work.dead)?;
+    Ok(Run {
+        worker: Worker::new(alloc, settings),
+        counts: Counts::new(),
+        dead,
+        until_empty: work.until_empty,
+    })
+}
+
+/// The search for entries that were delivered too often, if they are given up. Then entries that were delivered before
+/// are requested one at a time.
+fn make_search(
     alloc: Global,
     settings: &mut Settings,
     to: Option<GiveUp>,
-) -> Result<Option<DeadLetterSearch>> {
+) -> Result<Option<DeadLetterSearch>>
+    ensures settings { OnOk result (settings.new ≡ settings_with to settings.old) }
+    ensures search { IfOk result (λ search. is_some search ≡ is_some to) }
+{
     match to {
         Some(to) => Ok(Some(DeadLetterSearch::new(alloc, settings, to)?)),
         None => Ok(None),
     }
 }
 
-/// Drains over this connection, forwards the entries, and prints what was done.
-fn forward_over<R: Read + Drop, W: Write + Drop, T: WithOutbox + Drop, P: Eprint + AllocGlobal>(
+/// Drains, and prints the counts at the end.
+fn make_run<R: Read + Drop, W: Write + Drop, T: Table + Drop, P: Eprint + AllocGlobal>(
     rt: &P,
-    reader: R,
-    writer: W,
-    settings: Settings,
-    rows: &mut Forwarding<T>,
-    dead: Option<GiveUp>,
-    until_empty: bool,
-) -> Result<Drained> {
-    let alloc = rt.alloc();
-    let mut settings = settings;
-    let mut connection = Connection::new(alloc, reader, writer, Limits::default())?;
-    let mut dead = dead_of(alloc, &mut settings, dead)?;
-    rows.leave_unfit(dead.is_some());
-    let mut worker = Worker::new(alloc, settings);
-    let mut counts = Counts::new();
-    let ended = forward(
+    connection: &mut Connection<R, W>,
+    rows: &mut Rows<T>,
+    run: &mut Run,
+) -> Result<Drained>
+    ensures ended { IfOk result (λ _. IsTrue run.old.until_empty) }
+    ensures ok { OnOk result (IsRun run.old.worker.settings Loops
+        (⟦<Rows<T> as Handler>⟧.history rows.old) connection.old connection.new) }
+    ensures err { OnErr result (IsRun run.old.worker.settings Drains
+        (⟦<Rows<T> as Handler>⟧.history rows.old) connection.old connection.new) }
+{
+    let ended = drain(
         rt,
-        &mut connection,
-        &mut worker,
+        connection,
+        &mut run.worker,
         rows,
-        &mut counts,
-        &mut dead,
-        until_empty,
+        &mut run.counts,
+        &mut run.dead,
+        run.until_empty,
     );
-    counts.letters = dead.map(|dead| dead.letters());
-    let sent = rows.sent;
-    eprintln!(rt; "{counts}, {sent} sent on")?;
+    run.counts.letters = count_letters(&run.dead);
+    show_counts(rt, &run.counts)?;
     ended
 }
 
-/// The statements of a table of this name with these columns, or, if there are none, with one text.
-fn form_of(alloc: Global, table: &str, columns: &[Column]) -> Result<Form> {
-    if !columns.is_empty() {
-        return Ok(Form::of(alloc, table, columns)?);
-    }
-    if table == TABLE {
-        return Ok(Form::usual(alloc)?);
-    }
-    let mut fields = Vec::new(alloc);
-    fields.push(Column {
-        name: String::from_str(alloc, "fields")?,
-        kind: Kind::Text,
-        optional: false,
-    })?;
-    Ok(Form::of(alloc, table, &fields)?)
+/// Drains and forwards the entries, and prints the counts at the end.
+fn make_run_forwarding<
+    R: Read + Drop,
+    W: Write + Drop,
+    T: WithOutbox + Drop,
+    P: Eprint + AllocGlobal,
+>(
+    rt: &P,
+    connection: &mut Connection<R, W>,
+    rows: &mut Forwarding<T>,
+    run: &mut Run,
+) -> Result<Drained>
+    ensures ended { IfOk result (λ _. IsTrue run.old.until_empty) }
+    ensures ok { OnOk result (SendsAll run.old.worker.settings
+        (⟦<Forwarding<T> as Handler>⟧.history rows.old) connection.old connection.new) }
+    ensures err { OnErr result (SendsSome run.old.worker.settings
+        (⟦<Forwarding<T> as Handler>⟧.history rows.old) connection.old connection.new) }
+{
+    let ended = forward(
+        rt,
+        connection,
+        &mut run.worker,
+        rows,
+        &mut run.counts,
+        &mut run.dead,
+        run.until_empty,
+    );
+    run.counts.letters = count_letters(&run.dead);
+    show_sent(rt, &run.counts, rows.sent)?;
+    ended
 }
 
-/// Prints a warning if the file that should be the write-ahead log of this path is not one. The database
-/// ignores it.
-fn say_of_log(rt: &HostRuntime, path: &str) -> Result<()> {
-    let path = format!(in rt.alloc(); "{path}-wal")?;
-    let Ok(file) = File::open(rt, path.as_str()) else {
-        return Ok(());
-    };
-    let mut head = [0; 8];
-    let is_log = match file.read_at(&mut head, 0) {
-        Ok(0) => true,
-        Ok(8) => is_head_of_log(&head),
-        _ => false,
-    };
-    if !is_log {
-        eprintln!(rt; "{path} is no log of a database: nothing of it is taken in")?;
+/// How many entries were given up, if any may be.
+fn count_letters(dead: &Option<DeadLetterSearch>) -> Option<u64> {
+    match dead {
+        Some(dead) => Some(dead.letters()),
+        None => None,
     }
+}
+
+/// Prints the counts.
+fn show_counts<P: Eprint>(rt: &P, counts: &Counts) -> Result<()> {
+    eprintln!(rt; "{counts}")?;
     Ok(())
 }
 
-/// Whether a file that begins so is a write-ahead log of SQLite.
-fn is_head_of_log(head: &[u8]) -> bool {
-    matches!(
-        head,
-        [0x37, 0x7f, 0x06, 0x82 | 0x83, 0x00, 0x2d, 0xe2, 0x18]
-    )
-}
-
-/// Prints how many commands are in the outbox of this table, and for which stream. It prints nothing for an
-/// empty one.
-fn say_what_waits<S: Alter + Drop>(rt: &HostRuntime, table: &mut SqliteTable<S>) -> Result<()> {
-    let Ok(Some(waiting)) = table.waiting(rt.alloc()) else {
-        return Ok(());
-    };
-    let count = waiting.count;
-    let Some(target) = target_of(rt.alloc(), &waiting.first) else {
-        eprintln!(rt; "commands wait in the outbox: {count}")?;
-        return Ok(());
-    };
-    let target = Masked(&target);
-    if count == 1 {
-        eprintln!(rt; "1 command waits in the outbox, for {target}")?;
-    } else {
-        eprintln!(rt; "{count} commands wait in the outbox, the first one for {target}")?;
-    }
+/// Prints the counts, and how many entries were forwarded.
+fn show_sent<P: Eprint>(rt: &P, counts: &Counts, sent: u64) -> Result<()> {
+    eprintln!(rt; "{counts}, {sent} sent on")?;
     Ok(())
-}
-
-/// The table in the file of this path.
-fn table_at(
-    rt: &HostRuntime,
-    path: &str,
-    form: Form,
-) -> Result<SqliteTable<FileStore<DatabaseFile>>> {
-    let name = form.name.clone()?;
-    let wanted = form.create.clone()?;
-    let opened = SqliteTable::open(rt, path, form);
-    opened_in(rt, path, &name, &wanted, opened)
-}
-
-/// The table of the file of this path, with its outbox.
-fn outbox_beside<S: Alter + Drop>(
-    rt: &HostRuntime,
-    path: &str,
-    table: SqliteTable<S>,
-) -> Result<SqliteOutbox<S>> {
-    let opened = SqliteOutbox::beside(rt.alloc(), table);
-    opened_in(rt, path, OUTBOX, OUTBOX_CREATE, opened)
-}
-
-/// A table of this name that was opened in this file. If it is another one, the error has both its form and the
-/// wanted one.
-fn opened_in<T: Drop>(
-    rt: &HostRuntime,
-    path: &str,
-    name: &str,
-    wanted: &str,
-    opened: std::result::Result<T, OpenError>,
-) -> Result<T> {
-    match opened {
-        Ok(table) => Ok(table),
-        Err(OpenError::Table(error)) => {
-            let failed: std::result::Result<T, TableError> = Err(error);
-            failed.context(format_args!("cannot open {path}"))
-        }
-        Err(OpenError::Another(there)) => {
-            eprintln!(rt; "there: {}", Masked(&there))?;
-            eprintln!(rt; "wanted: {}", Masked(wanted))?;
-            Err(anyhow!("its table `{name}` is another one")).context(format_args!(
-                "cannot open {path}"
-            ))
-        }
-    }
 }

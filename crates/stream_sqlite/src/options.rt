@@ -1,14 +1,15 @@
 //! The arguments of the program.
-ghost use Rattle.std.specs.Prelude.{◌≡◌, ◌≤◌, [], length, IfOk, None, codes};
+ghost use Rattle.std.specs.Prelude.{◌≡◌, ◌≤◌, [], length, map, string_bytes, IfOk, None, codes};
 ghost use Rattle.clap.specs.Words.{first_value, found_of};
 ghost use Rattle.command_lines.specs.WorkerSettings.{GivesUp, IsWord};
-ghost use Rattle.stream_sqlite.specs.Options.{AreOptions, ForwardsTo, IsOtherThan};
+ghost use Rattle.stream_sqlite.specs.Options.{AreOptions, AreOptionsOf, ForwardsTo, IsOtherThan};
 
+use crate::said::{OptionArity, says};
 use clap::builder::ValueParser;
 use clap::{Arg, ArgMatches, Command, Error};
 use command_lines::{
-    BLOCK, EVERY, IDLE, Number, command, dead, flag, from, give_up_of, matches_of, name,
-    refused_value, settings_of, text, word_of,
+    BLOCK, EVERY, IDLE, Line, Number, command, dead, flag, from, give_up_of, matches_of, name,
+    refused, refused_value, settings_of, text, word_of,
 };
 use std::alloc::{AllocError, Global};
 use worker::Settings;
@@ -37,7 +38,7 @@ pub struct Options {
     pub dead: Option<GiveUp>,
 }
 
-const COUNT: Number = Number {
+pub const COUNT: Number = Number {
     name: "count",
     value: "ENTRIES",
     help: "At most so many entries at once, from 1 to 10000; a batch is one transaction",
@@ -46,13 +47,19 @@ const COUNT: Number = Number {
     usual: "1000",
 };
 
-/// The options of these arguments.
+/// The options of these words, as clap reads them. If the words do not say so, they are refused.
 pub fn options_of(alloc: Global, words: &[String]) -> Result<Options, Error>
-    ensures { IfOk result (λ _. 4 ≤ length words.now) }
+    ensures least { IfOk result (λ _. 4 ≤ length words.now) }
+    ensures said { IfOk result (λ options. AreOptionsOf (map string_bytes words.now) options) }
 {
     let mut command = command_of(alloc)?;
     let matches = matches_of(alloc, &mut command, words, 4)?;
-    options_in(alloc, &mut command, &matches)
+    let options = options_in(alloc, &mut command, &matches)?;
+    let line = Line::read::<OptionArity>(alloc, words)?;
+    if !says(alloc, &line, &matches, &options)? {
+        return Err(refused(alloc, &mut command, &"the words do not say what was read"));
+    }
+    Ok(options)
 }
 
 /// The options that a line asks for, by what was found in it.
