@@ -140,15 +140,15 @@ fn is_column(part: &str, column: &Column) -> bool
     }
 }
 
-/// The text behind this name and a colon, if a part begins so.
+/// The text after this name and a colon, if a part begins so.
 fn kind_after<'a>(part: &'a str, name: &str) -> Option<&'a str>
     ensures { IfSome result (λ kind. part.now ≡ name.now ++ 58 ∷ kind.now) }
 {
-    let behind = after(part, name)?;
-    after(behind, ":")
+    let rest = after(part, name)?;
+    after(rest, ":")
 }
 
-/// The text behind this front, if the text begins so.
+/// The text after this front, if the text begins so.
 fn after<'a>(text: &'a str, front: &str) -> Option<&'a str>
     ensures { IfSome result (λ rest. text.now ≡ front.now ++ rest.now) }
 {
