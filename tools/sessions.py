@@ -231,6 +231,13 @@ UNTIL_EMPTY = {"--until-empty": "It ends with status 0 once a read finds nothing
 WORKER = {"<KEY>": "The stream", "<GROUP>": "The group of consumers", "<CONSUMER>": "The name of the consumer"}
 
 
+# The texts of an entry's fields, and these as JSON; where a name or a value is no UTF-8, its Base64.
+FIELDS = [
+    (["b", "tea", "a", "", "b", "cup"], '[["b","tea"],["a",""],["b","cup"]]'),
+    (['a\tb"\\', b"\n\r\x00\x1f/"], '[["a\\tb\\"\\\\","\\n\\r\\u0000\\u001f/"]]'),
+    (["\u00e9\U0001f375", b"\xff\x00"], '[["\u00e9\U0001f375",{"base64":"/wA="}]]'),
+    ([], "[]"),
+]
 # What a worker asks, so many entries at once, as the consumer c of the group g, about the stream k. With --dead it asks
 # first what is pending: for the consumer itself, and for anybody.
 OWN_PENDING, ALL_PENDING = "XPENDING k g - + 100 c", "XPENDING k g IDLE 50 - + 100"
