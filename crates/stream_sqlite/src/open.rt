@@ -21,7 +21,7 @@ type FileTable = SqliteTable<FileStore<DatabaseFile>>;
 type FileOutbox = SqliteOutbox<FileStore<DatabaseFile>>;
 
 /// What opens the database in the file of a path.
-pub trait Open<T: Table, O: WithOutbox> {
+pub(crate) trait Open<T: Table, O: WithOutbox> {
     /// The rows of the table of this name in the file of this path, if they are known.
     ghost rows: { Self → List ℕ → List ℕ → Option (List Row) };
 
@@ -35,10 +35,12 @@ pub trait Open<T: Table, O: WithOutbox> {
         ensures { IfOk result (λ outbox. rows_known (O.committed outbox) ≡ T.committed table) };
 
     /// The table beside an outbox.
-    fn without_outbox(&self, outbox: O) -> T;
+    fn without_outbox(&self, outbox: O) -> T
+        ensures { T.committed result ≡ rows_known (O.committed outbox) };
 
     /// Shows how many commands wait in the outbox of this table, and for which stream. It shows nothing of an empty one.
-    fn show_waiting(&self, table: &mut T) -> Result<()>;
+    fn show_waiting(&self, table: &mut T) -> Result<()>
+        ensures { T.committed table.new ≡ T.committed table.old };
 
     /// Closes the table in the file of this path.
     fn close(&self, path: &str, table: T) -> Result<()>;
