@@ -24,7 +24,7 @@ first_of c column more cs all is same are =
     ap (λ (o : Option Shape). all_of (o ∷ all)) is
     ∙ ap (λ (o : Option (List Shape)). option_map (λ columns. c ∷ columns) o) (same ∙ are)
 
--- a list that has a comma: the part before it, and the list behind it
+-- a list that has a comma: the part before it, and the list after it
 pub one_more : (list part behind : Text) (c : Shape) (cs : List Shape) → position_or_len comma list < length list
     → part ≡ before_first comma list → behind ≡ after_first comma list → column_in part ≡ Some c
     → columns_in behind ≡ Some cs → columns_in list ≡ Some (c ∷ cs)

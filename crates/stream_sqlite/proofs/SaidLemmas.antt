@@ -1,24 +1,14 @@
--- The last name, and streams that are other ones.
-use Rattle.std.proofs.Common.{◌≡◌, ◌≢◌, ◌<◌, ◌≤◌, ◌∙◌, ◌∷◌, [], IfSome, List, None, Option, Some, ap, arith, codes, get_or, length}
-use Rattle.std.proofs.Common.{map, option_map, string_bytes}
-use Rattle.std.specs.Borrow.{Bor}
+-- Streams that are other ones.
+use Rattle.std.proofs.Common.{◌≡◌, ◌≢◌, ◌∙◌, [], IfSome, None, Option, Some, ap, codes, option_map, string_bytes}
 use Rattle.std.specs.Prelude.{String}
 use Rattle.std.specs.Prelude.{unwrap_or}
 use Rattle.std.specs.declared.alloc.Global.{Global}
 use Rattle.clap.specs.Words.{first_value}
 use Rattle.clap.specs.declared.parser.matches.Found.{Found}
-use Rattle.command_lines.specs.Words.{Text}
 use Rattle.command_lines.specs.WorkerSettings.{word_in}
 use Rattle.worker.specs.declared.dead_letters.search.GiveUp.{GiveUp}
 use Rattle.stream_sqlite.specs.Options.{AreOptions, IsApart, IsOtherThan}
 use Rattle.stream_sqlite.specs.declared.options.Options.{Options}
-
--- one name
-pub one_name : (xs : List (Bor Text)) (d : Bor Text) (a : Text) → 1 ≤ length xs → length xs < 2 → (get_or xs 0 d).now ≡ a
-    → map (λ (x : Bor Text). x.now) xs ≡ a ∷ []
-one_name [] d a some few is = absurd (omega arith)
-one_name (x ∷ []) d a some few is = ap (λ (t : Text). t ∷ []) is
-one_name (x ∷ y ∷ xs) d a some few is = absurd (omega arith)
 
 -- TARGET is not KEY
 apart_from_key : (found : Found) (key : String Global) (target : Option (String Global))

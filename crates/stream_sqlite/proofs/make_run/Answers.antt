@@ -9,7 +9,7 @@ use Rattle.worker_table.specs.declared.row_table.row.Row as memory
 use Rattle.stream_sqlite.proofs.ProgramLemmas.{either_way, ends_so, stops_so}
 use Rattle.stream_sqlite.proofs.make_run.Goals as goal
 
--- where a worker stands, with what its handler keeps
+-- the state of a worker, with what its handler keeps
 abbrev stands : Worker → List Column → List memory.Row → Option (List Row) → Standing Kept
 stands w columns loose known = standing_of w (kept_by columns loose known)
 

@@ -11,7 +11,7 @@ use Rattle.worker_table.specs.declared.row_table.post.PostedRow.{PostedRow}
 use Rattle.stream_sqlite.proofs.ProgramLemmas.{all_sent, sent_either_way, some_sent}
 use Rattle.stream_sqlite.proofs.make_run_forwarding.Goals as goal
 
--- where a worker stands, with what its handler keeps
+-- the state of a worker, with what its handler keeps
 abbrev stands : Worker → List Column → List PostedRow → Option Stored → Standing Kept
 stands w columns loose known = standing_of w (forwarding_kept columns (all_posted loose) known)
 

@@ -13,7 +13,7 @@ use Rattle.stream_drain.proofs.LivedLemmas.{leads_both, leads_end, leads_same, l
 use Rattle.stream_drain.proofs.TurnLemmas.{no_turn, one_more_turn, so_many_turns}
 use Rattle.stream_drain.proofs.drain.drain.Goals as goal
 
--- where a worker stands, with what its handler has written
+-- the state of a worker, with what its handler has written
 abbrev stands : Worker → Bool → Known → List ℕ → Option (List ℕ) → ℕ → Standing Written
 stands w json known loose file len = standing_of w (written_by json known loose file len)
 

@@ -8,7 +8,7 @@ use Rattle.stream_drain.proofs.LivedLemmas.{leads_besides, leads_both, leads_bre
 use Rattle.stream_drain.proofs.TurnLemmas.{confirmed_turn}
 use Rattle.stream_drain.proofs.drain.turn.Goals as goal
 
--- where a worker stands, with what its handler has written
+-- the state of a worker, with what its handler has written
 abbrev stands : Worker → Bool → Known → List ℕ → Option (List ℕ) → ℕ → Standing Written
 stands w json known loose file len = standing_of w (written_by json known loose file len)
 

@@ -9,7 +9,7 @@ use Rattle.worker.specs.declared.state.Settings.{Settings}
 use Rattle.worker.specs.declared.worker.Worker.{Worker}
 use Rattle.stream_run.proofs.drain.drain.Goals as goal
 
--- where a worker stands, with what its handler has said and heard
+-- the state of a worker, with what its handler has said and heard
 abbrev stands : Worker → Bool → List ℕ → Option (List ℕ) → Option (List ℕ) → Standing Talk
 stands w over stream sent coming = standing_of w (talk_of over stream sent coming)
 

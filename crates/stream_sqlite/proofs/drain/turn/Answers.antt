@@ -10,7 +10,7 @@ use Rattle.worker_table.proofs.LivedLemmas.{leads_end}
 use Rattle.stream_sqlite.proofs.LookLemmas.{leads_breaks, looked_on, looked_stops}
 use Rattle.stream_sqlite.proofs.drain.turn.Goals as goal
 
--- where a worker stands, with what its handler keeps
+-- the state of a worker, with what its handler keeps
 abbrev stands : Worker → List Column → List memory.Row → Option (List Row) → Standing Kept
 stands w columns loose known = standing_of w (kept_by columns loose known)
 

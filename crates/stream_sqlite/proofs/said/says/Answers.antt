@@ -2,7 +2,8 @@ use Rattle.std.proofs.Common.{◌≡◌, ◌∙◌, ◌∷◌, [], IsTrue, List,
 use Rattle.std.specs.Borrow.{Bor}
 use Rattle.clap.specs.Words.{found_of}
 use Rattle.command_lines.specs.Words.{Text}
-use Rattle.stream_sqlite.proofs.SaidLemmas.{are_apart, one_name}
+use Rattle.command_lines.proofs.SaidLemmas.{one_name}
+use Rattle.stream_sqlite.proofs.SaidLemmas.{are_apart}
 use Rattle.stream_sqlite.proofs.said.says.Goals as goal
 
 pub returns : goal.returns
