@@ -1,6 +1,7 @@
 """stream_serve on a port of the loopback: one server, which any number of connections share."""
 from __future__ import annotations
 
+import collections
 import contextlib
 import math
 import select
@@ -9,7 +10,7 @@ import socket
 import subprocess
 import threading
 import time
-from typing import IO, List, Optional, Tuple
+from typing import IO, Counter, List, Optional, Tuple
 
 from . import resp
 from .connect import Failed
@@ -41,6 +42,48 @@ class Recorder:
         return piece
 
 
+class Statistics:
+    """What INFO counts since the start, or since CONFIG RESETSTAT: the calls of each command, and the errors."""
+
+    def __init__(self) -> None:
+        self.calls: Counter[str] = collections.Counter()
+        self.rejected: Counter[str] = collections.Counter()
+        self.failed: Counter[str] = collections.Counter()
+        self.errors: Counter[str] = collections.Counter()
+
+    def note(self, name: bytes, reply: bytes) -> None:
+        """Counts a command of this name and its reply."""
+        command = name.decode(errors="replace").lower()
+        if reply.startswith(b"-"):
+            self.errors[reply[1:].split()[0].decode(errors="replace")] += 1
+        if reply.startswith(b"-ERR unknown command"):
+            return
+        if reply.startswith(b"-ERR wrong number of arguments"):
+            self.rejected[command] += 1
+            return
+        self.calls[command] += 1
+        self.failed[command] += reply.startswith(b"-")
+
+    def text(self, sections: List[bytes]) -> bytes:
+        """Returns the sections of INFO that are named; without a name all but that of the commands."""
+        names = {section.lower() for section in sections} or {b"default"}
+        whole = bool(names & {b"all", b"everything"})
+        usual = whole or b"default" in names
+        parts = []
+        if usual or b"stats" in names:
+            parts.append(f"# Stats\r\ntotal_error_replies:{sum(self.errors.values())}\r\n")
+        if whole or b"commandstats" in names:
+            parts.append("# Commandstats\r\n" + "".join(map(self._row, sorted({*self.calls, *self.rejected}))))
+        if usual or b"errorstats" in names:
+            parts.append("# Errorstats\r\n" + "".join(
+                f"errorstat_{error}:count={count}\r\n" for error, count in sorted(self.errors.items())))
+        return "\r\n".join(parts).encode()
+
+    def _row(self, name: str) -> str:
+        return (f"cmdstat_{name}:calls={self.calls[name]},usec=0,usec_per_call=0.00,"
+                f"rejected_calls={self.rejected[name]},failed_calls={self.failed[name]}\r\n")
+
+
 class Program:
     """The one stream_serve, over its standard input and output. It has one session, so HELLO is sent when it changes."""
 
@@ -48,6 +91,7 @@ class Program:
         self.process = subprocess.Popen(words, stdin=subprocess.PIPE, stdout=subprocess.PIPE)
         self.changed = threading.Condition()
         self.protocol, self.waiting = 2, 0
+        self.statistics = Statistics()
 
     def ask(self, protocol: int, words: List[bytes]) -> bytes:
         """Sends a command, and returns the bytes of its reply. Raises ConnectionError if the program has ended."""
@@ -98,17 +142,30 @@ class Session:
             self.program.changed.acquire()
             self.is_alone = True
         with self.program.changed:
-            block = None if self.is_alone else block_of(words)
-            reply = self._answer_blocked(words, block) if block is not None else self.program.ask(self.protocol, words)
+            reply = self._reply_to(words)
+            self.program.statistics.note(name, reply)
             if name == b"INFO" and reply.startswith(b"$"):
-                text = reply.partition(b"\r\n")[2][:-2]
-                reply = resp.encode_reply(text.replace(b"blocked_clients:0", b"blocked_clients:%d" % self.program.waiting))
+                reply = self._with_counts(reply, words[1:])
             if name == b"HELLO" and not reply.startswith(b"-"):
                 self.protocol = self.program.protocol = int(words[1]) if len(words) > 1 else self.protocol
             if name not in READS:
                 self.program.changed.notify_all()
         self._note_transaction(name, reply)
         return reply
+
+    def _reply_to(self, words: List[bytes]) -> bytes:
+        if not self.in_multi and [word.upper() for word in words] == [b"CONFIG", b"RESETSTAT"]:
+            self.program.statistics = Statistics()
+            return b"+OK\r\n"
+        block = None if self.is_alone else block_of(words)
+        return self.program.ask(self.protocol, words) if block is None else self._answer_blocked(words, block)
+
+    def _with_counts(self, reply: bytes, sections: List[bytes]) -> bytes:
+        """Returns the reply to INFO with the clients that wait, and with what was counted."""
+        text = reply.partition(b"\r\n")[2][:-2]
+        parts = [text.replace(b"blocked_clients:0", b"blocked_clients:%d" % self.program.waiting),
+                 self.program.statistics.text(sections)]
+        return resp.encode_reply(b"\r\n".join(filter(None, parts)))
 
     def _answer_blocked(self, words: List[bytes], block: float) -> bytes:
         """Asks again after each change, until there is something or the time is over; 0 for no end."""

@@ -70,6 +70,27 @@ class Serving(unittest.TestCase):
             self.assertEqual(self.one.recv(100), f"-{error}\r\n".encode())
             self.wait_until(0)
 
+    def test_calls_and_errors_are_counted(self):
+        resp.ask(self.other, "CONFIG", "RESETSTAT")
+        self.assertIn(b"total_error_replies:0\r\n", resp.ask(self.other, "INFO"))
+        resp.ask(self.other, "XGROUP", "CREATE", "k", "g", "$", "MKSTREAM")
+        self.one.sendall(resp.encode(["XREADGROUP", "GROUP", "g", "c", "BLOCK", "0", "STREAMS", "k", ">"]))
+        self.wait_until(1)
+        resp.ask(self.other, "XADD", "other", "5-1", "a", "b")
+        resp.ask(self.other, "XGROUP", "DESTROY", "k", "g")
+        self.assertTrue(self.one.recv(100).startswith(b"-NOGROUP "))
+        for words in (["XLEN"], ["no", "such"]):
+            with self.assertRaises(resp.ReplyError):
+                resp.ask(self.other, *words)
+        self.assertEqual(resp.ask(self.other, "INFO", "errorstats"),
+                         b"# Errorstats\r\nerrorstat_ERR:count=2\r\nerrorstat_NOGROUP:count=1\r\n")
+        rows = resp.ask(self.other, "INFO", "commandstats").split(b"\r\n")
+        for name, counts in (("xreadgroup", (1, 0, 1)), ("xadd", (1, 0, 0)), ("xlen", (0, 1, 0))):
+            self.assertIn(b"cmdstat_%s:calls=%d,usec=0,usec_per_call=0.00,rejected_calls=%d,failed_calls=%d"
+                          % (name.encode(), *counts), rows)
+        self.assertFalse([row for row in rows if b"_no:" in row])
+        self.assertIn(b"total_error_replies:3\r\n", resp.ask(self.other, "INFO", "stats"))
+
     def test_nothing_goes_to_a_client_that_has_gone(self):
         resp.ask(self.other, "XGROUP", "CREATE", "k", "g", "$", "MKSTREAM")
         self.one.sendall(resp.encode(["XREADGROUP", "GROUP", "g", "c", "BLOCK", "0", "STREAMS", "k", ">"]))

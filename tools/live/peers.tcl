@@ -71,6 +71,8 @@ set size {config set stream-node-max-entries}
 # Which of the commands that the server has not this code sends, itself or by a procedure of the tests.
 proc wants {code} {
     set found {}
+    # ('jagyerti serve' knows this one, and no other of CONFIG)
+    regsub -all {config resetstat\M} $code "" code
     if {[string first ~ $code] < 0} { regsub -all "$::size \\d+" $code "" code }
     regsub -all "$::size 100\\M" $code "" code
     foreach name [info procs] {
