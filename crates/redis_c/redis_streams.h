@@ -557,7 +557,7 @@ uint32_t redis_partition_of(const uint8_t *record_key, size_t record_key_len, si
    REDIS_OK: `out` begins with the name of the partition, of `*len` bytes.
    REDIS_ROOM: it has `*len` bytes, for which `room` is too little.
    REDIS_NO_PARTITION: `partition` is above 65,535, and `*len` is 0. It is returned for each such number.
-   REDIS_MEMORY: `*len` is 0. Memory is taken for the name, and given back before the call ends. */
+   The call asks for no memory. */
 uint32_t redis_partition_name(const uint8_t *name, size_t name_len, size_t partition, uint8_t *out, size_t room,
                               size_t *len);
 

@@ -10,4 +10,3 @@ pub mod Server
 pub mod Plain
 pub mod Records
 pub mod Nodes
-pub mod Cluster

@@ -2,13 +2,12 @@
 ghost use Rattle.std.specs.Prelude.{◌≡◌, ◌<◌, ◌≤◌, ◌^◌, ◌%◌, ◌⊎◌, None, Some, option_map};
 ghost use Rattle.redis_client.specs.Cluster.Crc.{crc16};
 ghost use Rattle.redis_client.specs.Cluster.Slot.{key_slot};
-ghost use Rattle.redis_c.specs.Packing.{IsPackedAs};
-ghost use Rattle.redis_c.specs.Cluster.{IsNaming};
+ghost use Rattle.redis_client.specs.Cluster.Partition.{partition_name};
+ghost use Rattle.redis_c.specs.Packing.{IsPackedAs, IsWritten};
 
 use crate::code;
-use crate::packing::{Packing, copied};
-use redis_client::cluster::{key_slot, partition_name, partition_of};
-use std::alloc::Global;
+use crate::packing::copy_both;
+use redis_client::cluster::{key_slot, partition_of, partition_suffix};
 use std::num::NonZeroU16;
 
 /// The slot of a key, from 0 to 16,383.
@@ -46,31 +45,23 @@ pub extern "C" fn redis_partition_of(record_key: &[u8], number: usize, partition
     }
 }
 
-/// Writes the name of a partition to the start of the buffer.
-fn named(alloc: Global, name: &[u8], partition: u16, out: &mut [u8]) -> Packing
-    ensures { IsNaming name.now partition out.new result }
-{
-    match partition_name(alloc, name, partition) {
-        Ok(key) => copied(&key, out),
-        Err(_) => Packing::Memory,
-    }
-}
-
-/// Writes the name of a partition of a stream, such as `orders:{3}`.
+/// Writes the name of a partition of a stream, such as `orders:{3}`. It asks for no memory.
 #[unsafe(no_mangle)]
 pub extern "C" fn redis_partition_name(
-    alloc: Global,
     name: &[u8],
     partition: usize,
     out: &mut [u8],
     len: &mut usize,
 ) -> u32
     ensures ok { partition < 2 ^ 16
-        → IsPackedAs (IsNaming name.now partition out.new) result len.new }
+        → IsPackedAs (IsWritten (partition_name name.now partition) out.new) result len.new }
     ensures none { 2 ^ 16 ≤ partition → (result ≡ 11) × (len.new ≡ 0) }
 {
     match u16::try_from(partition) {
-        Ok(partition) => named(alloc, name, partition, out).tell(len),
+        Ok(partition) => {
+            let suffix = partition_suffix(partition);
+            copy_both(name, suffix.as_str().as_bytes(), out).tell(len)
+        }
         Err(_) => {
             *len = 0;
             code::NO_PARTITION

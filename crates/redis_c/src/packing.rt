@@ -1,5 +1,5 @@
 //! Commands as bytes in a buffer of the caller.
-ghost use Rattle.std.specs.Prelude.{◌≡◌};
+ghost use Rattle.std.specs.Prelude.{◌≡◌, ◌++◌};
 ghost use Rattle.redis_c.specs.Packing.{number, len_of, IsPacking, IsWritten};
 
 use crate::code;
@@ -82,6 +82,21 @@ pub fn copied(bytes: &[u8], out: &mut [u8]) -> Packing
     let (front, _) = out.split_at_mut(bytes.len());
     front.copy_from_slice(bytes);
     Packing::Written { len: bytes.len() }
+}
+
+/// Copies the first bytes and after them the second to the start of the buffer, if both fit.
+pub fn copy_both(first: &[u8], second: &[u8], out: &mut [u8]) -> Packing
+    ensures { IsWritten (first.now ++ second.now) out.new result }
+{
+    let len = first.len() + second.len();
+    if len > out.len() {
+        return Packing::Room { len };
+    }
+    let (front, _) = out.split_at_mut(len);
+    let (begin, end) = front.split_at_mut(first.len());
+    begin.copy_from_slice(first);
+    end.copy_from_slice(second);
+    Packing::Written { len }
 }
 
 /// Packs a command into the start of the buffer.

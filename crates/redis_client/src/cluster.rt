@@ -12,7 +12,7 @@ mod step;
 
 pub use crc::crc16;
 pub use error::ClusterError;
-pub use partition::{partition_name, partition_of};
+pub use partition::{partition_of, partition_suffix, push_partition_name};
 pub use reading::cluster_error;
 pub use slot::{hash_tag, key_slot};
 pub use step::NextStep;

@@ -20,7 +20,7 @@ ghost use Rattle.test_cases.specs.Kinds.{is_cluster};
 use anyhow::Result;
 use hex::FromHexError;
 use redis_client::cluster::{
-    ClusterError, NextStep, cluster_error, key_slot, partition_name, partition_of,
+    ClusterError, NextStep, cluster_error, key_slot, partition_of, push_partition_name,
 };
 use redis_client::topology::{Node, Role, Shard, Topology, TopologyError};
 use redis_resp::Value;
@@ -134,7 +134,8 @@ fn partition_text(alloc: Global, input: &str) -> Result<String> {
 fn partition_name_text(alloc: Global, input: &str) -> Result<String> {
     match number_and_rest(input) {
         Some((partition, name)) => {
-            let key = partition_name(alloc, name.as_bytes(), partition)?;
+            let mut key = Vec::new(alloc);
+            push_partition_name(&mut key, name.as_bytes(), partition)?;
             let slot = key_slot(&key);
             let key = str::from_utf8(&key).unwrap_or("other bytes");
             Ok(format!(in alloc; "{key} slot {slot}")?)

@@ -84,9 +84,7 @@ pub slots_of_partitions : SlotsOfPartitions
 slots_of_partitions name n lacks small =
     let long = number_fits n small in
     let text : partition_name name n ≡ (name ++ 58 ∷ []) ++ 123 ∷ (decimal n ++ 125 ∷ []) =
-    append_assoc (name ++ 58 ∷ 123 ∷ []) (decimal n) (125 ∷ [])
-    ∙ append_assoc name (58 ∷ 123 ∷ []) (decimal n ++ 125 ∷ [])
-    ∙ sym (append_assoc name (58 ∷ []) (123 ∷ (decimal n ++ 125 ∷ []))) in
+    sym (append_assoc name (58 ∷ []) (123 ∷ (decimal n ++ 125 ∷ []))) in
     ap (λ key. key_slot key) text
     ∙ ap (λ o. crc16 (unwrap_or o ((name ++ 58 ∷ []) ++ 123 ∷ (decimal n ++ 125 ∷ []))) % 16384)
     (tag_is (name ++ 58 ∷ []) (decimal n) [] (lacks_colon name lacks) (digits_lack 125 no_closing n long) (some_digit n long))
