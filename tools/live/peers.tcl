@@ -4,9 +4,8 @@
 # usage: tclsh peers.tcl SOURCE HOST PORT 'COMMAND ..' FILE..
 #
 # SOURCE is redis' source. A case that sends one of the commands is left out, and so is one that starts a server of its
-# own. If CONFIG is one of them, the size of nodes is not set, and a case is left out only if its size counts: with ~ as
-# it trims, and another size than 100. A line for each case: 'pass', 'fail' or 'left out', its name, and what went wrong
-# or why it is left out, between tabs.
+# own. A line for each case: 'pass', 'fail' or 'left out', its name, and what went wrong or why it is left out, between
+# tabs.
 lassign $argv source host port wanting
 set files [lrange $argv 4 end]
 cd $source
@@ -53,7 +52,6 @@ proc redis_deferring_client {args} {
 proc srv {args} { expr {[lindex $args end] eq "client" ? $::client : 0} }
 proc r {args} {
     if {[string is integer -strict [lindex $args 0]]} { set args [lrange $args 1 end] }
-    if {"CONFIG" in $::wanting && [lrange $args 0 2] eq $::size} { return OK }
     $::client {*}$args
 }
 proc s {args} { getInfoProperty [$::client info] [lindex $args end] }
@@ -66,15 +64,11 @@ proc wait_for_blocked_clients_count {count args} {
     error "no client waits"
 }
 
-set size {config set stream-node-max-entries}
-
 # Which of the commands that the server has not this code sends, itself or by a procedure of the tests.
 proc wants {code} {
     set found {}
-    # ('jagyerti serve' knows this one, and no other of CONFIG)
-    regsub -all {config resetstat\M} $code "" code
-    if {[string first ~ $code] < 0} { regsub -all "$::size \\d+" $code "" code }
-    regsub -all "$::size 100\\M" $code "" code
+    # ('jagyerti serve' knows these, and no other of CONFIG)
+    regsub -all {config (?:resetstat|set stream-node-max-entries)\M} $code "" code
     foreach name [info procs] {
         if {$name ni $::here && [regexp "\\m$name\\M" $code]} { append code "\n" [info body $name] }
     }

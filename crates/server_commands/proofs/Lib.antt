@@ -5,6 +5,7 @@ pub mod SentReadLemmas
 mod AcknowledgeLemmas
 mod AddLemmas
 mod AddModelLemmas
+mod BeginningLemmas
 mod ClaimAnswerLemmas
 mod ClaimCodeLemmas
 mod ClaimEventLemmas

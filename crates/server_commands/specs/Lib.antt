@@ -13,9 +13,11 @@ pub mod Kinds
 pub mod Loopback
 pub mod Model
 pub mod ModelAdding
+pub mod ModelBeginning
 pub mod ModelClaiming
 pub mod ModelReading
 pub mod ModelRereading
+pub mod Nodes
 pub mod Places
 pub mod Quoted
 pub mod ReadBack

@@ -1,11 +1,14 @@
 //! The commands by their names, and functions that several use.
-ghost use Rattle.std.specs.Prelude.{◌≡◌, IfErr, IfOk, OnErr};
+ghost use Rattle.std.specs.Prelude.{◌≡◌, ◌≢◌, IfErr, IfOk, OnOk, OnErr};
 ghost use Rattle.server_commands.specs.Commands.{IsDone, MayRefuse, PlainIsDone, PlainMayRefuse};
+ghost use Rattle.server_commands.specs.Nodes.{IsConfigured};
 ghost use Rattle.server_commands.specs.Streams.{seen_streams};
+ghost use Rattle.server_commands.specs.declared.commands.Plain.TheVariants as plain;
 
 mod add;
 mod answers;
 mod claim;
+mod config;
 mod connection;
 mod draft;
 mod group;
@@ -80,6 +83,8 @@ pub(crate) enum Plain {
     LookUp(LookUp),
     Report(Report),
     Connection(Connection),
+    /// CONFIG.
+    Configure,
 }
 
 /// The commands that change streams.
@@ -111,10 +116,12 @@ pub(crate) enum LookUp {
     Info,
 }
 
-/// Executes a command with these arguments. If it is refused, nothing is changed.
+/// Executes a command with these arguments, on streams whose nodes have at most `node_entries` entries. If it is
+/// refused, nothing is changed.
 pub(crate) fn run(
     alloc: Global,
     streams: &mut Vec<Stream>,
+    node_entries: &mut u64,
     now: u64,
     session: &mut Session,
     command: Plain,
@@ -123,13 +130,18 @@ pub(crate) fn run(
     ensures done { IfOk result (λ answer. PlainIsDone command words.items now answer streams.old.items streams.new.items) }
     ensures refused { IfErr result (PlainMayRefuse command words.items) }
     ensures streams { OnErr result (seen_streams streams.new ≡ seen_streams streams.old) }
+    ensures nodes { OnErr result (node_entries.new ≡ node_entries.old) }
+    ensures size { command ≢ plain.Configure → node_entries.new ≡ node_entries.old }
+    ensures configured { OnOk result (command ≡ plain.Configure
+        → IsConfigured words.items node_entries.new) }
     ensures session { OnErr result (session.new ≡ session.old) }
 {
     match command {
-        Plain::Change(change) => run_change(alloc, streams, now, change, words),
+        Plain::Change(change) => run_change(alloc, streams, *node_entries, now, change, words),
         Plain::LookUp(look_up) => run_reading(alloc, streams, now, look_up, &words),
         Plain::Report(report) => run_report(alloc, streams.len(), now, report, &words),
         Plain::Connection(asked) => connection::answered(alloc, session, asked, &words),
+        Plain::Configure => config::set(alloc, node_entries, &words),
     }
 }
 
@@ -137,6 +149,7 @@ pub(crate) fn run(
 fn run_change(
     alloc: Global,
     streams: &mut Vec<Stream>,
+    node_entries: u64,
     now: u64,
     change: Change,
     words: Vec<Vec<u8>>,
@@ -151,14 +164,14 @@ fn run_change(
     match change {
         Change::Delete => Ok(length(remove::remove_keys(streams, arguments))),
         Change::DeleteAll => keys::remove_all(streams, arguments),
-        Change::Add => add::add(alloc, streams, now, words),
+        Change::Add => add::add(alloc, streams, node_entries, now, words),
         Change::ReadGroup => read::read_group(alloc, streams, now, arguments),
         Change::Group => group::group(alloc, streams, now, word, arguments),
         Change::Acknowledge => remove::acknowledge(alloc, streams, arguments),
         Change::Claim => claim::claim(alloc, streams, now, arguments),
         Change::AutoClaim => stalled::claim_stalled(alloc, streams, now, arguments),
         Change::DeleteEntries => remove::delete(alloc, streams, arguments),
-        Change::Trim => remove::trim(streams, arguments),
+        Change::Trim => remove::trim(streams, node_entries, arguments),
         Change::SetId => remove::set_id(streams, arguments),
     }
 }

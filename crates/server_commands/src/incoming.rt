@@ -312,7 +312,7 @@ fn length_of(number: Option<i64>) -> Result<u32, Stop>
 
 /// The number of a text, with no plus sign and no leading zero.
 #[tactic(auto, unfolding(crate::specs::Incoming::strict_number))]
-fn number_of(text: &[u8]) -> Option<i64>
+pub(crate) fn number_of(text: &[u8]) -> Option<i64>
     ensures { result ≡ strict_number text.now }
 {
     match parsed_number(text) {

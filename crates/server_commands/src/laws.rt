@@ -1,6 +1,7 @@
 //! Laws of the bytes of replies, and of what commands do.
 ghost use Rattle.server_commands.specs.Model.{XackIsTheEvent, XdelIsTheEvents};
 ghost use Rattle.server_commands.specs.ModelAdding.{XaddIsTheEvent};
+ghost use Rattle.server_commands.specs.ModelBeginning.{NoEntriesEnd, XgroupCreateBeginsAWorld};
 ghost use Rattle.server_commands.specs.ModelClaiming.{XautoclaimIsTheEvent};
 ghost use Rattle.server_commands.specs.ModelReading.{HandingOutIsTheEvent, ReadingNewsIsTheEvent, XreadgroupIsTheEvent};
 ghost use Rattle.server_commands.specs.ModelRereading.{XreadgroupWithAnIdIsTheEvent};
@@ -10,6 +11,13 @@ ghost use Rattle.server_commands.specs.ReadBack.{RepliesAreRead};
 /// client gets one reply for each command.
 pub fn replies_are_read()
     ensures { RepliesAreRead }
+{}
+
+/// XGROUP CREATE makes a group that is that of a world of `model_server::group`: it has seen the entries up to the id
+/// at which it begins, and nothing is pending. The entries have to ascend, up to the last id; those of a new stream do.
+pub fn xgroup_create_begins_a_world()
+    ensures begins { XgroupCreateBeginsAWorld }
+    ensures new { NoEntriesEnd }
 {}
 
 /// If the entries and a group of a stream are those of a world of `model_server::group`, they are so after XACK, of

@@ -8,7 +8,7 @@ ghost use Rattle.server_commands.specs.declared.session.Mode.TheVariants.{AtOnce
 use crate::answer::Reply;
 use crate::session::Session;
 use crate::transaction;
-use server_store::Stream;
+use server_store::{NODE_ENTRIES, Stream};
 use std::alloc::{AllocError, Global};
 use std::marker::Model;
 
@@ -18,6 +18,8 @@ use std::marker::Model;
 #[derive(Debug, Drop)]
 pub struct Server {
     streams: Vec<Stream>,
+    /// How many entries a node has at most; 0 for any number.
+    node_entries: u64,
 }
 
 impl Model for Server {
@@ -38,6 +40,7 @@ impl Server {
     {
         Server {
             streams: Vec::new(alloc),
+            node_entries: NODE_ENTRIES,
         }
     }
 
@@ -66,6 +69,13 @@ impl Server {
         ensures queued { IfOk result (λ r. WaitsForExec command r (record { streams = self.old; session = session.old })
             (record { streams = self.new; session = session.new })) }
     {
-        transaction::answered(alloc, &mut self.streams, now, session, command)
+        transaction::answered(
+            alloc,
+            &mut self.streams,
+            &mut self.node_entries,
+            now,
+            session,
+            command,
+        )
     }
 }

@@ -2,6 +2,7 @@
 ghost use Rattle.std.specs.Prelude.{◌≡◌, ◌≢◌, ◌<◌, ℕ, length, true, IfOk, OnOk, OnErr, Ok};
 ghost use Rattle.std.specs.Global.{Vec};
 ghost use Rattle.server_commands.specs.Commands.{IsNamed, PlainReplies, Replies, least_of};
+ghost use Rattle.server_commands.specs.Nodes.{IsConfigured};
 ghost use Rattle.server_commands.specs.Server.{IsRefused, queued_reply};
 ghost use Rattle.server_commands.specs.Session.{forgotten, with_queued};
 ghost use Rattle.server_commands.specs.Streams.{seen_streams};
@@ -45,6 +46,7 @@ const OUT_OF_MEMORY: &str = "OOM command not allowed when used memory > 'maxmemo
 pub(crate) fn answered(
     alloc: Global,
     streams: &mut Vec<Stream>,
+    node_entries: &mut u64,
     now: u64,
     session: &mut Session,
     words: Vec<Vec<u8>>,
@@ -53,6 +55,8 @@ pub(crate) fn answered(
         → least_of change < length words.items
         → Replies change words.items now streams.old.items streams.new.items r) }
     ensures err { OnErr result (seen_streams streams.new ≡ seen_streams streams.old) }
+    ensures nodes { OnErr result (node_entries.new ≡ node_entries.old) }
+    ensures unset { IfOk result (λ r. IsRefused r → node_entries.new ≡ node_entries.old) }
     ensures session { OnErr result (session.new ≡ session.old) }
     ensures refused { IfOk result (λ r. IsRefused r
         → seen_streams streams.new ≡ seen_streams streams.old) }
@@ -62,9 +66,17 @@ pub(crate) fn answered(
         × (seen_streams streams.new ≡ seen_streams streams.old)) }
 {
     match commands::command_in(alloc, &words) {
-        Ok(Command::Transaction(step)) => execute_step(alloc, streams, now, session, step, &words),
+        Ok(Command::Transaction(step)) => execute_step(
+            alloc,
+            streams,
+            node_entries,
+            now,
+            session,
+            step,
+            &words,
+        ),
         Ok(Command::Plain(command)) if session.mode == Mode::AtOnce => {
-            execute_now(alloc, streams, now, session, command, words)
+            execute_now(alloc, streams, node_entries, now, session, command, words)
         }
         Ok(Command::Plain(command)) => queued(session, command, words),
         Err(refusal) => reject_command(alloc, session, refusal),
@@ -75,6 +87,7 @@ pub(crate) fn answered(
 fn execute_now(
     alloc: Global,
     streams: &mut Vec<Stream>,
+    node_entries: &mut u64,
     now: u64,
     session: &mut Session,
     command: Plain,
@@ -82,11 +95,16 @@ fn execute_now(
 ) -> Result<Reply, AllocError>
     ensures done { IfOk result (PlainReplies command words.items now streams.old.items streams.new.items) }
     ensures err { OnErr result (seen_streams streams.new ≡ seen_streams streams.old) }
+    ensures nodes { OnErr result (node_entries.new ≡ node_entries.old) }
+    ensures size { command ≢ plain.Configure → node_entries.new ≡ node_entries.old }
+    ensures unset { IfOk result (λ r. IsRefused r → node_entries.new ≡ node_entries.old) }
+    ensures configured { command ≡ plain.Configure
+        → IfOk result (λ r. (IsRefused r → ⊥) → IsConfigured words.items node_entries.new) }
     ensures session { OnErr result (session.new ≡ session.old) }
     ensures refused { IfOk result (λ r. IsRefused r
         → seen_streams streams.new ≡ seen_streams streams.old) }
 {
-    match commands::run(alloc, streams, now, session, command, words) {
+    match commands::run(alloc, streams, node_entries, now, session, command, words) {
         Ok(answer) => {
             session.is_touched = is_touched(streams, session);
             Ok(Reply::Done(answer))
@@ -134,12 +152,15 @@ fn refused(alloc: Global, refusal: Refusal) -> Result<Reply, AllocError>
 fn execute_step(
     alloc: Global,
     streams: &mut Vec<Stream>,
+    node_entries: &mut u64,
     now: u64,
     session: &mut Session,
     step: Step,
     words: &[Vec<u8>],
 ) -> Result<Reply, AllocError>
     ensures err { OnErr result (seen_streams streams.new ≡ seen_streams streams.old) }
+    ensures nodes { OnErr result (node_entries.new ≡ node_entries.old) }
+    ensures unset { IfOk result (λ r. IsRefused r → node_entries.new ≡ node_entries.old) }
     ensures session { OnErr result (session.new ≡ session.old) }
     ensures refused { IfOk result (λ r. IsRefused r
         → seen_streams streams.new ≡ seen_streams streams.old) }
@@ -147,7 +168,7 @@ fn execute_step(
     match step {
         Step::Begin => begun(alloc, session),
         Step::Execute if words.len() > 1 => drop_queue(alloc, session, WRONG_EXECUTE),
-        Step::Execute => ended(alloc, streams, now, session),
+        Step::Execute => ended(alloc, streams, node_entries, now, session),
         Step::Discard => discard_queue(alloc, session),
         Step::Watch => watch(alloc, streams, session, words),
     }
@@ -218,10 +239,13 @@ fn forget(session: &mut Session)
 fn ended(
     alloc: Global,
     streams: &mut Vec<Stream>,
+    node_entries: &mut u64,
     now: u64,
     session: &mut Session,
 ) -> Result<Reply, AllocError>
     ensures err { OnErr result (seen_streams streams.new ≡ seen_streams streams.old) }
+    ensures nodes { OnErr result (node_entries.new ≡ node_entries.old) }
+    ensures unset { IfOk result (λ r. IsRefused r → node_entries.new ≡ node_entries.old) }
     ensures session { OnErr result (session.new ≡ session.old) }
     ensures refused { IfOk result (λ r. IsRefused r
         → seen_streams streams.new ≡ seen_streams streams.old) }
@@ -240,7 +264,15 @@ fn ended(
             let mut outcomes = fail_for_memory(alloc, session.queue.len())?;
             let queue = mem::replace(&mut session.queue, Vec::new(alloc));
             forget(session);
-            execute(alloc, streams, now, session, queue, &mut outcomes);
+            execute(
+                alloc,
+                streams,
+                node_entries,
+                now,
+                session,
+                queue,
+                &mut outcomes,
+            );
             Ok(Reply::Executed(outcomes))
         }
     }
@@ -263,13 +295,22 @@ fn fail_for_memory(
 fn execute(
     alloc: Global,
     streams: &mut Vec<Stream>,
+    node_entries: &mut u64,
     now: u64,
     session: &mut Session,
     queue: Vec<Queued>,
     outcomes: &mut Vec<Result<Answer, Vec<u8>>>,
 ) {
     for (queued, outcome) in queue.into_iter().zip(outcomes.iter_mut()) {
-        match commands::run(alloc, streams, now, session, queued.command, queued.words) {
+        match commands::run(
+            alloc,
+            streams,
+            node_entries,
+            now,
+            session,
+            queued.command,
+            queued.words,
+        ) {
             Ok(answer) => *outcome = Ok(answer),
             Err(refusal) => {
                 if let Ok(text) = refusal.into_text(alloc) {

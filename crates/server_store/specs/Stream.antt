@@ -1,5 +1,5 @@
 -- The contents of a stream and a group, and how they change.
-use Rattle.std.specs.Prelude.{◌≡◌, ◌≢◌, ◌≤◌, ◌<◌, ◌+◌, ◌-◌, ℕ, ℤ, pos, ◌+ℤ◌, List, [], ◌∷◌, ◌++◌, length, remove, slice_set as set, sum_by, take}
+use Rattle.std.specs.Prelude.{◌≡◌, ◌≢◌, ◌≤◌, ◌<◌, ◌+◌, ◌-◌, ◌^◌, ℕ, ℤ, pos, ◌+ℤ◌, List, [], ◌∷◌, ◌++◌, length, min, remove, slice_set as set, sum_by, take}
 use Rattle.std.specs.Int.{w64, saturate_signed}
 use Rattle.std.specs.declared.cmp.Ordering.TheVariants.{Greater}
 use Rattle.std.specs.List.{HoldsAt}
@@ -44,6 +44,29 @@ pub record IsLonger (entry : Entry) (old new : Stream) : Type 0 where
     last_id = new.last_id;
     entries_added = new.entries_added;
   }
+
+-- a node that begins with the entry of this id
+abbrev pub new_node : EntryId → Node
+new_node id = record { live = 1; appended = 1; last = id }
+
+-- the node with one entry more, of this id
+abbrev pub grown : EntryId → Node → Node
+grown id node = record {
+  live = min (node.live + 1) (2 ^ 64 - 1);
+  appended = min (node.appended + 1) (2 ^ 64 - 1);
+  last = id;
+}
+
+-- there is a last node, and it has room for another entry: fewer than `most` were appended to it, or `most` is 0
+pub record IsLastOpen (most : ℕ) (nodes : List Node) : Type 0 where
+  pub some : 0 < length nodes
+  pub room : most ≢ 0 → HoldsAt (λ node. node.appended < most) nodes (length nodes - 1)
+
+-- the last node has one entry more, of this id
+pub record IsLastGrown (id : EntryId) (old new : List Node) : Type 0 where
+  pub node : Node
+  pub named : HoldsAt (λ n. n ≡ node) old (length old - 1)
+  pub more : new ≡ set old (length old - 1) (grown id node)
 
 -- one entry with this id is removed, and the others stay
 pub record IsWithoutOne (id : EntryId) (old new : List Entry) : Type 0 where

@@ -7,7 +7,7 @@ ghost use Rattle.std.specs.List.{Contains, HoldsAt};
 ghost use Rattle.std.specs.List.Sorted.{IsSearchInRange};
 ghost use Rattle.server_store.specs.Order.{IsAscending, IsGapFor, IsNowhere, IsSplitBefore};
 ghost use Rattle.server_store.specs.Trim.{IsExactCount, IsTrimmed, goes, lets_go, whole_from};
-ghost use Rattle.server_store.specs.Stream.{seen_stream, first_id_of, IsLessAt, IsLessInOne, IsLonger, IsOneLess, IsTombstoneFrom, IsWithin, IsWithoutOne};
+ghost use Rattle.server_store.specs.Stream.{seen_stream, first_id_of, new_node, IsLastGrown, IsLastOpen, IsLessAt, IsLessInOne, IsLonger, IsOneLess, IsTombstoneFrom, IsWithin, IsWithoutOne};
 
 use crate::entry_id::EntryId;
 use crate::group::Group;
@@ -16,7 +16,7 @@ use std::alloc::{AllocError, Global};
 use std::collections::VecDeque;
 use std::mem::replace;
 
-/// How many entries one node has. Trimming with `~` removes whole nodes.
+/// How many entries one node has at most, as redis-server has it at first. Trimming with `~` removes whole nodes.
 pub const NODE_ENTRIES: u64 = 100;
 
 /// If at least this many entries are removed at once, their memory is freed later.
@@ -83,25 +83,23 @@ impl Stream {
         }
     }
 
-    /// Appends an entry. An `Err` changes nothing.
-    pub fn append(&mut self, id: EntryId, fields: Vec<Vec<u8>>) -> Result<(), AllocError>
+    /// Appends an entry, to the last node if it has room. A node has room for `most` entries, deleted ones
+    /// included, and for any number if `most` is 0. An `Err` changes nothing.
+    pub fn append(&mut self, id: EntryId, fields: Vec<Vec<u8>>, most: u64) -> Result<(), AllocError>
         ensures ok { OnOk result (IsLonger (record { id = id; fields = fields }) self.old self.new) }
+        ensures grows { OnOk result (IsLastOpen most self.old.nodes.items
+            → IsLastGrown id self.old.nodes.items self.new.nodes.items) }
+        ensures begins { OnOk result ((IsLastOpen most self.old.nodes.items → ⊥)
+            → self.new.nodes.items ≡ self.old.nodes.items ++ new_node id ∷ []) }
         ensures err { OnErr result (seen_stream self.new ≡ seen_stream self.old) }
         ensures gone { self.new.gone.items ≡ drop 16 self.old.gone.items }
     {
         self.give_back();
-        let is_open = match self.nodes.back() {
-            Some(node) => node.appended < NODE_ENTRIES,
-            None => false,
-        };
+        let is_open = is_last_open(&self.nodes, most);
         self.nodes.reserve(1)?;
         self.entries.push_back(Entry { id, fields })?;
         if is_open {
-            if let Some(node) = self.nodes.back_mut() {
-                node.live = node.live.saturating_add(1);
-                node.appended = node.appended.saturating_add(1);
-                node.last = id;
-            }
+            grow_last(&mut self.nodes, id);
         } else {
             self.nodes.push_back_reserved(Node {
                 live: 1,
@@ -291,6 +289,28 @@ impl Stream {
             },
             Bound::Below(least) => self.start(least),
         }
+    }
+}
+
+/// Whether the last node has room for another entry, if a node has at most `most`, or any number for 0.
+fn is_last_open(nodes: &VecDeque<Node>, most: u64) -> bool
+    ensures some { OnTrue result (IsLastOpen most nodes.now.items) }
+    ensures none { OnFalse result (IsLastOpen most nodes.now.items → ⊥) }
+{
+    match nodes.back() {
+        Some(node) => most == 0 || node.appended < most,
+        None => false,
+    }
+}
+
+/// Counts one entry more in the last node, with this id.
+fn grow_last(nodes: &mut VecDeque<Node>, id: EntryId)
+    ensures { 0 < length nodes.old.items → IsLastGrown id nodes.old.items nodes.new.items }
+{
+    if let Some(node) = nodes.back_mut() {
+        node.live = node.live.saturating_add(1);
+        node.appended = node.appended.saturating_add(1);
+        node.last = id;
     }
 }
 

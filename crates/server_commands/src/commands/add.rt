@@ -1,8 +1,9 @@
 //! `XADD`.
-ghost use Rattle.std.specs.Prelude.{◌≡◌, IfOk, IfSome, OnErr};
+ghost use Rattle.std.specs.Prelude.{◌≡◌, IfOk, IfSome, None, OnErr};
 ghost use Rattle.std.specs.declared.cmp.Ordering.TheVariants.{Less};
 ghost use Rattle.server_commands.specs.Adding.{IsAdded, IsIdFor, IsXadd};
 ghost use Rattle.server_commands.specs.IdWords.{Fits};
+ghost use Rattle.server_commands.specs.Nodes.{IsInNode};
 ghost use Rattle.server_commands.specs.Streams.{seen_streams};
 ghost use Rattle.server_store.specs.Order.{id_order};
 ghost use Rattle.server_store.specs.Stream.{seen_stream};
@@ -24,6 +25,7 @@ const NOT_ABOVE: Refusal = Refusal::Fixed(
 pub(super) fn add(
     alloc: Global,
     streams: &mut Vec<Stream>,
+    node_entries: u64,
     now: u64,
     mut command: Vec<Vec<u8>>,
 ) -> Result<Answer, Refusal>
@@ -34,7 +36,7 @@ pub(super) fn add(
     let [_, key, words @ ..] = command.as_slice() else {
         return Err(SYNTAX);
     };
-    let options = retention_in(words, true)?;
+    let options = retention_in(words, true, node_entries)?;
     let first = 2usize.saturating_add(options.len);
     check(&options, command.len().saturating_sub(first))?;
     let key = Vec::from_slice(alloc, key)?;
@@ -43,13 +45,13 @@ pub(super) fn add(
     }
     let fields = command.split_off(first)?;
     match place_of(streams, &key) {
-        Ok(index) => append(&mut streams[index], &options, now, fields),
+        Ok(index) => append(&mut streams[index], node_entries, &options, now, fields),
         Err(index) => {
             if !options.makes_stream {
                 return Ok(Answer::Nil);
             }
             let mut stream = Stream::new(alloc, key);
-            let answer = append(&mut stream, &options, now, fields)?;
+            let answer = append(&mut stream, node_entries, &options, now, fields)?;
             streams.insert(index, stream)?;
             Ok(answer)
         }
@@ -67,14 +69,17 @@ fn check(options: &Retention, fields: usize) -> Result<(), Refusal> {
     Ok(())
 }
 
-/// Appends an entry and trims the stream.
+/// Appends an entry and trims the stream, whose nodes have at most `node_entries` entries.
 fn append(
     stream: &mut Stream,
+    node_entries: u64,
     options: &Retention,
     now: u64,
     fields: Vec<Vec<u8>>,
 ) -> Result<Answer, Refusal>
     ensures ok { IfOk result (λ answer. IsAdded fields options.now now answer stream.old stream.new) }
+    ensures nodes { options.now.trim ≡ None → IfOk result (λ answer. IsInNode node_entries answer
+        stream.old.nodes.items stream.new.nodes.items) }
     ensures err { OnErr result (seen_stream stream.new ≡ seen_stream stream.old) }
 {
     if stream.last_id == EntryId::LAST {
@@ -85,7 +90,7 @@ fn append(
     let Some(id) = id_for(stream.last_id, options.id, now) else {
         return Err(NOT_ABOVE);
     };
-    stream.append(id, fields)?;
+    stream.append(id, fields, node_entries)?;
     if let Some(trim) = options.trim {
         let _count = stream.trim(trim);
     }

@@ -11,7 +11,7 @@ use super::connection::Connection;
 use super::report::Report;
 use super::words::is_word;
 use super::{
-    Change, Command, LookUp, Plain, SYNTAX, Step, connection, group, info, report, unknown,
+    Change, Command, LookUp, Plain, SYNTAX, Step, config, connection, group, info, report, unknown,
     wrong_count,
 };
 use crate::refusal::Refusal;
@@ -51,6 +51,9 @@ fn command_named(word: &[u8]) -> Option<Command>
     }
     if let Some(asked) = connection_named(word) {
         return Some(Command::Plain(Plain::Connection(asked)));
+    }
+    if is_word(word, "CONFIG") {
+        return Some(Command::Plain(Plain::Configure));
     }
     Some(Command::Transaction(step_named(word)?))
 }
@@ -176,6 +179,7 @@ fn has_right_count(command: Command, count: usize) -> bool
         Command::Plain(Plain::LookUp(look_up)) => look_up_takes(look_up, count),
         Command::Plain(Plain::Report(report)) => report_takes(report, count),
         Command::Plain(Plain::Connection(asked)) => connection_takes(asked, count),
+        Command::Plain(Plain::Configure) => count >= 1,
         Command::Transaction(step) => step_takes(step, count),
     }
 }
@@ -249,6 +253,7 @@ fn check_subcommand(
         Command::Plain(Plain::Connection(Connection::Client)) => {
             connection::check(alloc, word, arguments)
         }
+        Command::Plain(Plain::Configure) => config::check(alloc, word, arguments),
         _ => Ok(()),
     }
 }

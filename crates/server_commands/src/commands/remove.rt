@@ -69,13 +69,17 @@ fn remove_all(stream: &mut Stream, ids: &[EntryId]) -> usize
 }
 
 /// `XTRIM key MAXLEN | MINID [= | ~] threshold [LIMIT count]`
-pub(super) fn trim(streams: &mut [Stream], arguments: &[Vec<u8>]) -> Result<Answer, Refusal>
+pub(super) fn trim(
+    streams: &mut [Stream],
+    node_entries: u64,
+    arguments: &[Vec<u8>],
+) -> Result<Answer, Refusal>
     ensures { OnErr result (streams.new ≡ streams.old) }
 {
     let [key, words @ ..] = arguments else {
         return Err(SYNTAX);
     };
-    let Some(trim) = retention_in(words, false)?.trim else {
+    let Some(trim) = retention_in(words, false, node_entries)?.trim else {
         return Err(Refusal::Fixed(
             "ERR syntax error, XTRIM must be called with a trimming strategy",
         ));

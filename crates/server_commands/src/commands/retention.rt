@@ -2,6 +2,7 @@
 ghost use Rattle.std.specs.Prelude.{◌≡◌, ◌≤◌, ◌∷◌, ℕ, List, codes, length, true, IfOk, IfSome, Ok, Some};
 ghost use Rattle.server_commands.specs.Adding.{id_alone};
 ghost use Rattle.server_commands.specs.IdWords.{Fits, texts_of};
+ghost use Rattle.server_commands.specs.Nodes.{limit_of, usual_limit};
 ghost use Rattle.server_commands.specs.declared.commands.new_ids.NewId.TheVariants.{Automatic, Given};
 ghost use Rattle.server_store.specs.EntryId.{id_text};
 ghost use Rattle.server_store.specs.declared.entry_id.EntryId.{EntryId};
@@ -11,7 +12,7 @@ use super::new_ids::{NewId, new_id};
 use super::words::is_word;
 use super::{INVALID_ID, SYNTAX, integer};
 use crate::refusal::Refusal;
-use server_store::{Bound, NODE_ENTRIES, Trim};
+use server_store::{Bound, Trim};
 
 /// The options of XADD and XTRIM.
 #[derive(Clone, Copy)]
@@ -37,8 +38,12 @@ struct Draft {
 }
 
 /// `[NOMKSTREAM] [MAXLEN | MINID [= | ~] threshold [LIMIT count]]`, and for XADD the id, in any
-/// order before the id.
-pub(super) fn retention_in(words: &[Vec<u8>], is_add: bool) -> Result<Retention, Refusal>
+/// order before the id. A node has at most `node_entries` entries.
+pub(super) fn retention_in(
+    words: &[Vec<u8>],
+    is_add: bool,
+    node_entries: u64,
+) -> Result<Retention, Refusal>
     ensures len { IfOk result (λ r. r.len ≤ length words.now) }
     ensures given { (id : EntryId) (others : List (List ℕ)) → is_add ≡ true → Fits id
         → texts_of words.now ≡ id_text id ∷ others → result ≡ Ok (id_alone (Given id)) }
@@ -61,7 +66,7 @@ pub(super) fn retention_in(words: &[Vec<u8>], is_add: bool) -> Result<Retention,
         id: None,
     };
     let rest = read_options(&mut draft, words, is_add)?;
-    let trim = trim_of(&draft, is_add)?;
+    let trim = trim_of(&draft, is_add, node_entries)?;
     Ok(Retention {
         makes_stream: draft.makes_stream,
         trim,
@@ -167,7 +172,10 @@ const LIMIT_ALONE: &str = "ERR syntax error, LIMIT cannot be used without specif
 const LIMIT_EXACT: &str = "ERR syntax error, LIMIT cannot be used without the special ~ option";
 
 /// How the stream is trimmed, or why the options exclude each other.
-fn trim_of(draft: &Draft, is_add: bool) -> Result<Option<Trim>, Refusal> {
+fn trim_of(draft: &Draft, is_add: bool, node_entries: u64) -> Result<Option<Trim>, Refusal>
+    ensures limit { IfOk result (λ trim. IfSome trim (λ t. t.limit
+        ≡ limit_of draft.now.limit draft.now.is_approximate node_entries)) }
+{
     let Some(bound) = draft.bound else {
         if matches!(draft.limit, Some(limit) if limit != 0) {
             return Err(Refusal::Fixed(LIMIT_ALONE));
@@ -181,7 +189,7 @@ fn trim_of(draft: &Draft, is_add: bool) -> Result<Option<Trim>, Refusal> {
         return Err(Refusal::Fixed(LIMIT_EXACT));
     }
     let usual = if draft.is_approximate {
-        100 * NODE_ENTRIES
+        usual_limit(node_entries)
     } else {
         0
     };
@@ -190,6 +198,18 @@ fn trim_of(draft: &Draft, is_add: bool) -> Result<Option<Trim>, Refusal> {
         is_approximate: draft.is_approximate,
         limit: draft.limit.unwrap_or(usual),
     }))
+}
+
+/// The limit of `~` without LIMIT, if a node has at most `node_entries` entries: a hundred nodes, at most
+/// 1,000,000 entries; 10,000 entries if a node has any number.
+fn usual_limit(node_entries: u64) -> u64
+    ensures { result ≡ usual_limit node_entries }
+{
+    match node_entries {
+        0 => 10_000,
+        1..=9_999 => 100 * node_entries,
+        _ => 1_000_000,
+    }
 }
 
 /// `[= | ~] threshold`: whether it is `~`, the threshold, and the arguments after it.

@@ -1,4 +1,4 @@
-use Rattle.std.proofs.Common.{refl}
+use Rattle.std.proofs.Common.{arith, refl}
 use Rattle.server_commands.proofs.commands.add.append.Goals as goal
 use Rattle.server_commands.proofs.commands.add.append.Goals.{in-Some-trim, in_default-trim}
 
@@ -17,3 +17,14 @@ returns-clause-ok c = record {
   ];
   answered = refl;
 }
+
+pub returns-clause-nodes : goal.returns-clause-nodes
+returns-clause-nodes c = λ none. elim c.match-options.branch [
+  | in-Some-trim w ↦ absurd (grind (arith, none, w.in-Some-trim.is))
+  | in_default-trim w ↦ rw w.stream-is (record {
+    id = c.in-Some.id;
+    answered = refl;
+    grows = c.in_ok-append.ensures.grows;
+    begins = c.in_ok-append.ensures.begins;
+  })
+]
