@@ -1,12 +1,15 @@
 -- A run of the program, by its options and by its words.
-use Rattle.std.specs.Prelude.{◌≡◌, [], List, Option, None, Some, IfSome, IsTrue, is_some, string_bytes, true}
+use Rattle.std.specs.Prelude.{◌≡◌, [], ℕ, List, Option, None, Some, IfSome, IsTrue, is_some, string_bytes, true}
 use Rattle.redis_connection.specs.Link.{Link}
 use Rattle.redis_connection.specs.declared.wait.Wait.{Wait}
 use Rattle.model_workers.specs.Loops.Loop.{Drains, Loops}
 use Rattle.model_workers.specs.Loops.Shown.{Way}
 use Rattle.worker.specs.Session.{Standing}
 use Rattle.worker_journal.specs.Lines.{StartsWith}
+use Rattle.worker.specs.DeadLetters.Dead.{IsCounted, IsSearched, Searcher, searcher_of}
+use Rattle.worker.specs.declared.dead_letters.search.DeadLetterSearch.{DeadLetterSearch}
 use Rattle.worker.specs.declared.dead_letters.search.GiveUp.{GiveUp}
+use Rattle.worker.specs.declared.state.Asked.{Asked}
 use Rattle.worker.specs.declared.state.Settings.{Settings}
 use Rattle.stream_drain.specs.Lived.{Leads}
 use Rattle.stream_drain.specs.Options.{AreOptionsOf}
@@ -19,6 +22,25 @@ use Rattle.stream_drain.specs.Written.{Written}
 abbrev pub settings_with : Option GiveUp → Settings → Settings
 settings_with None settings = settings
 settings_with (Some to) settings = record settings { one_at_a_time = true }
+
+-- the search for dead letters: it gives up entries of this worker, from this delivery count on, and their letters go to
+-- this stream
+abbrev pub searcher_by : Settings → GiveUp → Searcher
+searcher_by settings to = record {
+  claimer = record {
+    key = string_bytes settings.key;
+    group = string_bytes settings.group;
+    consumer = string_bytes settings.consumer;
+    min_idle = settings.min_idle;
+  };
+  names = (string_bytes settings.key, string_bytes settings.group, string_bytes to.stream);
+  deliveries = to.deliveries;
+}
+
+-- the search that is due after a command, over a connection
+abbrev pub SearchesAfter : DeadLetterSearch → Asked → Link → Link → Type 0
+SearchesAfter d asked old new =
+    (reads : ℕ) × IsCounted d.reads asked reads × IsSearched (searcher_of d) d.begun d.every reads old new
 
 -- a worker with these settings, whose handler began with these lines, went this way over the connection
 pub record IsRun (settings : Settings) (way : Settings → Way) (lines : Written) (old new : Link) : Type 0 where

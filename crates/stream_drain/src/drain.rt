@@ -1,10 +1,12 @@
 //! The loop of the program: it sends commands and takes the replies.
-ghost use Rattle.std.specs.Prelude.{◌≡◌, IfErr, IfOk, IfSome, IsTrue, OnErr, OnOk, false};
+ghost use Rattle.std.specs.Prelude.{◌≡◌, ◌≤◌, IfErr, IfOk, IfSome, IsTrue, OnErr, OnOk, false, option_map};
 ghost use Rattle.worker.specs.Confirm.Confirmed.{IsConfirmedRound};
 ghost use Rattle.worker.specs.DeadLetters.Besides.{Besides, BreaksBesides, LooksNot};
+ghost use Rattle.worker.specs.DeadLetters.Dead.{searcher_of};
 ghost use Rattle.stream_drain.specs.Backlog.{Hears};
 ghost use Rattle.stream_drain.specs.Filed.{FiledFrom};
 ghost use Rattle.stream_drain.specs.Lived.{Leads};
+ghost use Rattle.stream_drain.specs.Program.{SearchesAfter};
 ghost use Rattle.stream_drain.specs.Turn.{EachIsConfirmed, IsConfirmedTurn};
 ghost use Rattle.model_workers.specs.Loops.Loop.{Loops, Stops};
 ghost use Rattle.worker.specs.Session.{standing_of};
@@ -134,6 +136,9 @@ fn look<R: Read + Drop, W: Write + Drop, D: LogFile + Drop>(
     dead: &mut Option<DeadLetterSearch>,
     asked: Asked,
 ) -> Result<(), Failure>
+    ensures searches { lines.now.done ≤ lines.now.committed → IfSome dead.old (λ d. d.waits ≡ false
+        → OnOk result (SearchesAfter d asked connection.old connection.new)) }
+    ensures same { option_map searcher_of dead.new ≡ option_map searcher_of dead.old }
     ensures ok { OnOk result (Besides connection.old connection.new) }
     ensures err { OnErr result (BreaksBesides connection.old connection.new) }
 {

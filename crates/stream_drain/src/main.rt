@@ -19,11 +19,12 @@
 //! returned nothing new, 2 if an argument is wrong, and else 1 with the reason. `--help` prints its arguments.
 #![tactic(auto)]
 
-ghost use Rattle.std.specs.Prelude.{◌≡◌, ◌≤◌, ◌⊎◌, [], IfOk, IfSome, IsOk, IsTrue, OnErr, OnOk, is_some, map, string_bytes, true};
+ghost use Rattle.std.specs.Prelude.{◌≡◌, ◌≤◌, ◌⊎◌, [], IfOk, IfSome, IsOk, IsTrue, OnErr, OnOk, is_some, map, option_map, string_bytes, true};
 ghost use Rattle.std.specs.Process.{exit_status};
 ghost use Rattle.model_workers.specs.Loops.Loop.{Drains};
 ghost use Rattle.worker_journal.specs.Holds.{committed_in};
-ghost use Rattle.stream_drain.specs.Program.{BeginsFile, EndsAsSaid, EndsBy, EndsSo, IsRun, RunsAsSaid, RunsBy, settings_with};
+ghost use Rattle.stream_drain.specs.Program.{BeginsFile, EndsAsSaid, EndsBy, EndsSo, IsRun, RunsAsSaid, RunsBy, searcher_by, settings_with};
+ghost use Rattle.worker.specs.DeadLetters.Dead.{searcher_of};
 ghost use Rattle.command_lines.specs.Words.{asks_help};
 
 mod backlog;
@@ -204,7 +205,8 @@ fn begin_run<D: LogFile + Drop>(alloc: Global, options: Options, lines: &Lines<D
     ensures settings { IfOk result (λ run. run.worker.settings ≡ settings_with options.dead options.settings) }
     ensures wait { IfOk result (λ run. run.wait ≡ options.wait) }
     ensures until_empty { IfOk result (λ run. run.until_empty ≡ options.until_empty) }
-    ensures dead { IfOk result (λ run. is_some run.dead ≡ is_some options.dead) }
+    ensures dead { IfOk result (λ run. option_map searcher_of run.dead
+        ≡ option_map (searcher_by options.settings) options.dead) }
 {
     let mut settings = options.settings;
     let mut report = make_report(alloc, &settings, options.quiet)?;
@@ -271,7 +273,7 @@ fn begin_worker<D: LogFile + Drop>(
 
 /// If the worker first acknowledges ids of its file, the search for dead letters skips its first turn.
 fn wait_at_start(dead: &mut Option<DeadLetterSearch>, acknowledges: bool)
-    ensures some { is_some dead.new ≡ is_some dead.old }
+    ensures same { option_map searcher_of dead.new ≡ option_map searcher_of dead.old }
     ensures waits { IsTrue acknowledges → IfSome dead.new (λ search. search.waits ≡ true) }
 {
     if acknowledges && let Some(dead) = dead {
@@ -328,7 +330,8 @@ fn make_search(
     to: Option<GiveUp>,
 ) -> Result<Option<DeadLetterSearch>>
     ensures settings { OnOk result (settings.new ≡ settings_with to settings.old) }
-    ensures search { IfOk result (λ search. is_some search ≡ is_some to) }
+    ensures search { IfOk result (λ search. option_map searcher_of search
+        ≡ option_map (searcher_by settings.old) to) }
 {
     match to {
         Some(to) => Ok(Some(DeadLetterSearch::new(alloc, settings, to)?)),

@@ -5,7 +5,10 @@ use Rattle.redis_connection.specs.Link.{Link}
 use Rattle.model_server.specs.Group.Worker.{start}
 use Rattle.worker.specs.Machine.{machine_of}
 use Rattle.worker.specs.Session.{Standing}
+use Rattle.worker.specs.DeadLetters.Dead.{IsCounted, IsSearched, Searcher, searcher_of}
+use Rattle.worker.specs.declared.dead_letters.search.DeadLetterSearch.{DeadLetterSearch}
 use Rattle.worker.specs.declared.dead_letters.search.GiveUp.{GiveUp}
+use Rattle.worker.specs.declared.state.Asked.{Asked}
 use Rattle.worker.specs.declared.state.Asked.TheVariants.{Nothing}
 use Rattle.worker.specs.declared.state.GroupState.TheVariants.{Unknown}
 use Rattle.worker.specs.declared.state.Settings.{Settings}
@@ -19,6 +22,25 @@ use Rattle.stream_run.specs.declared.options.Options.{Options}
 abbrev pub settings_with : Option GiveUp → Settings → Settings
 settings_with None settings = settings
 settings_with (Some to) settings = record settings { one_at_a_time = true }
+
+-- the search for dead letters: it gives up entries of this worker, from this delivery count on, and their letters go to
+-- this stream
+abbrev pub searcher_by : Settings → GiveUp → Searcher
+searcher_by settings to = record {
+  claimer = record {
+    key = string_bytes settings.key;
+    group = string_bytes settings.group;
+    consumer = string_bytes settings.consumer;
+    min_idle = settings.min_idle;
+  };
+  names = (string_bytes settings.key, string_bytes settings.group, string_bytes to.stream);
+  deliveries = to.deliveries;
+}
+
+-- the search that is due after a command, over a connection
+abbrev pub SearchesAfter : DeadLetterSearch → Asked → Link → Link → Type 0
+SearchesAfter d asked old new =
+    (reads : ℕ) × IsCounted d.reads asked reads × IsSearched (searcher_of d) d.begun d.every reads old new
 
 -- the talk before the first entry: the lines are of the stream that the settings name, and this was sent and is coming
 abbrev pub first_talk : Settings → Option (List ℕ) → Option (List ℕ) → Talk

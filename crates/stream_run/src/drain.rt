@@ -1,8 +1,10 @@
 //! The loop of the program: it sends commands and takes the replies.
-ghost use Rattle.std.specs.Prelude.{◌≡◌, ◌⊎◌, IfErr, IfOk, IsTrue, None, OnErr, OnOk, false, string_bytes};
+ghost use Rattle.std.specs.Prelude.{◌≡◌, ◌⊎◌, IfErr, IfOk, IfSome, IsTrue, None, OnErr, OnOk, false, option_map, string_bytes};
 ghost use Rattle.worker.specs.DeadLetters.Besides.{Besides, BreaksBesides, GivesUpNow};
+ghost use Rattle.worker.specs.DeadLetters.Dead.{searcher_of};
 ghost use Rattle.stream_run.specs.Failures.{IsOfChild};
 ghost use Rattle.stream_run.specs.GivenUp.{GivesUpDead, GivesUpEach, dead_of, names_of_search};
+ghost use Rattle.stream_run.specs.Program.{SearchesAfter};
 ghost use Rattle.stream_run.specs.Rounds.{Adds, BreaksAdding, Rounds, Stops};
 ghost use Rattle.worker.specs.Session.{standing_of};
 
@@ -23,6 +25,22 @@ const LARGEST: &str = "1 GiB";
 /// The limit on the values of a reply, as in `Limits::default`.
 const MOST: &str = "16,777,216";
 
+/// How a drain ended: with a reply `stop`, or with a read that returned no new entries. Only `drain` makes one.
+#[derive(Clone, Copy)]
+pub struct Drained {
+    /// The last turn.
+    last: TurnMade,
+}
+
+/// A turn of the loop.
+#[derive(Clone, Copy)]
+struct TurnMade {
+    /// The command that was sent last in it.
+    asked: Asked,
+    /// How many entries the handler had seen before it.
+    before: u64,
+}
+
 /// Drains until something fails, until the child replies `stop`, or, with `until_empty`, until a read returns no new
 /// entries.
 pub fn drain<
@@ -39,8 +57,10 @@ pub fn drain<
     report: &mut Report,
     dead: &mut Option<DeadLetterSearch>,
     until_empty: bool,
-) -> Result<(), Failure>
+) -> Result<Drained, Failure>
     ensures ended { IfOk result (λ _. IsTrue until_empty ⊎ IsTrue jobs.new.over) }
+    ensures read { IfOk result (λ drained. IsTrue jobs.new.over ⊎ (drained.last.asked ≡ Asked.New)) }
+    ensures empty { IfOk result (λ drained. IsTrue jobs.new.over ⊎ (drained.last.before ≡ jobs.new.seen)) }
     ensures ok { OnOk result (Rounds worker.old.settings connection.old
         (standing_of worker.old (⟦<Jobs<C, D> as Handler>⟧.history jobs.old)) connection.new
         (standing_of worker.new (⟦<Jobs<C, D> as Handler>⟧.history jobs.new))) }
@@ -51,22 +71,22 @@ pub fn drain<
 {
     let mut asked = Asked::Nothing;
     for _ in 0..u64::MAX {
-        let seen = jobs.seen;
-        asked = turn(rt, connection, worker, jobs, report, dead, asked)?;
+        let last = turn(rt, connection, worker, jobs, report, dead, asked)?;
+        asked = last.asked;
         if jobs.is_over() {
             settle(rt.alloc(), connection, worker, jobs, report)?;
-            return ended(rt.alloc(), jobs);
+            ended(rt.alloc(), jobs)?;
+            return Ok(Drained { last });
         }
-        if until_empty && asked == Asked::New && jobs.seen == seen {
-            return Ok(());
+        if until_empty && asked == Asked::New && jobs.seen == last.before {
+            return Ok(Drained { last });
         }
     }
     Err(anyhow!("the last turn came").into())
 }
 
 /// Searches for entries to give up, makes a round, or two in one write, and sends the entries that the replies add. Then
-/// it shows the texts of the child, gives up the entries whose reply is `dead`, and counts. Returns the command that was
-/// sent last.
+/// it shows the texts of the child, gives up the entries whose reply is `dead`, and counts.
 fn turn<
     R: Read + Drop,
     W: Write + Drop,
@@ -81,7 +101,8 @@ fn turn<
     report: &mut Report,
     dead: &mut Option<DeadLetterSearch>,
     asked: Asked,
-) -> Result<Asked, Failure>
+) -> Result<TurnMade, Failure>
+    ensures before { IfOk result (λ turn. turn.before ≡ jobs.old.seen) }
     ensures settings { worker.new.settings ≡ worker.old.settings }
     ensures ok { OnOk result (Rounds worker.old.settings connection.old
         (standing_of worker.old (⟦<Jobs<C, D> as Handler>⟧.history jobs.old)) connection.new
@@ -91,6 +112,7 @@ fn turn<
         (standing_of worker.new (⟦<Jobs<C, D> as Handler>⟧.history jobs.new))) }
     ensures not_child { IfErr result (λ failure. IsOfChild failure → ⊥) }
 {
+    let before = jobs.seen;
     look(
         rt.alloc(),
         connection,
@@ -106,7 +128,10 @@ fn turn<
     if made.acknowledged || made.round.asked == Asked::Acknowledgement {
         report.count(jobs.committed);
     }
-    Ok(made.round.asked)
+    Ok(TurnMade {
+        asked: made.round.asked,
+        before,
+    })
 }
 
 /// Searches for entries that were delivered too often, if they are given up.
@@ -117,6 +142,9 @@ fn look<R: Read + Drop, W: Write + Drop>(
     dead: &mut Option<DeadLetterSearch>,
     asked: Asked,
 ) -> Result<(), Failure>
+    ensures searches { in_hand ≡ false → IfSome dead.old (λ d. d.waits ≡ false
+        → OnOk result (SearchesAfter d asked connection.old connection.new)) }
+    ensures same { option_map searcher_of dead.new ≡ option_map searcher_of dead.old }
     ensures ok { OnOk result (Besides connection.old connection.new) }
     ensures err { OnErr result (BreaksBesides connection.old connection.new) }
     ensures not_child { IfErr result (λ failure. IsOfChild failure → ⊥) }

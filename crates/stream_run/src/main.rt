@@ -18,12 +18,13 @@
 //! arguments.
 #![tactic(auto)]
 
-ghost use Rattle.std.specs.Prelude.{◌≡◌, ◌≤◌, ◌⊎◌, IfErr, IfOk, IsOk, IsTrue, OnErr, OnOk, is_some, map, string_bytes};
+ghost use Rattle.std.specs.Prelude.{◌≡◌, ◌≤◌, ◌⊎◌, IfErr, IfOk, IsOk, IsTrue, OnErr, OnOk, map, option_map, string_bytes};
 ghost use Rattle.std.specs.Process.{exit_status};
 ghost use Rattle.command_lines.specs.Words.{asks_help};
 ghost use Rattle.worker.specs.Session.{standing_of};
 ghost use Rattle.stream_run.specs.Failures.{IsOfChild};
-ghost use Rattle.stream_run.specs.Program.{ChildFailsAsSaid, ChildFailsBy, EndsAsSaid, EndsBy, EndsSo, IsNew, OverSo, StopsAsSaid, StopsBy, StopsSo, first_talk, newborn, settings_with};
+ghost use Rattle.stream_run.specs.Program.{ChildFailsAsSaid, ChildFailsBy, EndsAsSaid, EndsBy, EndsSo, IsNew, OverSo, StopsAsSaid, StopsBy, StopsSo, first_talk, newborn, searcher_by, settings_with};
+ghost use Rattle.worker.specs.DeadLetters.Dead.{searcher_of};
 
 mod drain;
 mod failure;
@@ -33,7 +34,7 @@ mod options;
 mod report;
 mod said;
 
-use crate::drain::drain;
+use crate::drain::{Drained, drain};
 use crate::failure::Failure;
 use crate::open::OpenPipes;
 use crate::options::{Options, options_of};
@@ -91,7 +92,7 @@ fn run_by_words<
 }
 
 /// The exit status: 0, or that of a failure, which is shown on standard error with `?` for each control character.
-fn end_with<T: Eprint + AllocGlobal>(rt: &T, ended: Result<(), Failure>) -> Result<ExitCode>
+fn end_with<T: Eprint + AllocGlobal>(rt: &T, ended: Result<Drained, Failure>) -> Result<ExitCode>
     ensures ok { OnOk ended (IfOk result (λ code. exit_status code ≡ 0)) }
     ensures child { IfErr ended (λ failure. IsOfChild failure → IfOk result (λ code. exit_status code ≡ 4)) }
     ensures other { IfErr ended (λ failure. (IsOfChild failure → ⊥) → IfOk result (λ code. exit_status code ≡ 1)) }
@@ -144,7 +145,12 @@ fn drain_by<
     D: SteadyWrite + Drop,
     P: OpenPipes<C, D>,
     T: Eprint + AllocGlobal,
->(rt: &T, pipes: &P, connection: &mut Connection<R, W>, options: Options) -> Result<(), Failure>
+>(
+    rt: &T,
+    pipes: &P,
+    connection: &mut Connection<R, W>,
+    options: Options,
+) -> Result<Drained, Failure>
     ensures ok { OnOk result (EndsBy (P.held pipes.now) (P.coming pipes.now) options connection.old connection.new) }
     ensures err { OnErr result ((connection.new ≡ connection.old)
         ⊎ StopsBy (P.held pipes.now) (P.coming pipes.now) options connection.old connection.new) }
@@ -169,7 +175,7 @@ fn drain_with<
     replies: C,
     lines: D,
     options: Options,
-) -> Result<(), Failure>
+) -> Result<Drained, Failure>
     ensures ok { OnOk result (EndsSo (settings_with options.dead options.settings) options.until_empty
         connection.old connection.new (newborn (settings_with options.dead options.settings)
         (first_talk options.settings (D.contents lines) (C.remaining replies)))) }
@@ -211,7 +217,8 @@ struct Run {
 /// A run by these options.
 fn begin_run(alloc: Global, options: Options) -> Result<Run>
     ensures worker { IfOk result (λ run. IsNew (settings_with options.dead options.settings) run.worker) }
-    ensures dead { IfOk result (λ run. is_some run.dead ≡ is_some options.dead) }
+    ensures dead { IfOk result (λ run. option_map searcher_of run.dead
+        ≡ option_map (searcher_by options.settings) options.dead) }
     ensures until_empty { IfOk result (λ run. run.until_empty ≡ options.until_empty) }
 {
     let mut settings = options.settings;
@@ -235,7 +242,7 @@ fn make_run<
     connection: &mut Connection<R, W>,
     jobs: &mut Jobs<C, D>,
     run: &mut Run,
-) -> Result<(), Failure>
+) -> Result<Drained, Failure>
     ensures ok { OnOk result (EndsSo run.old.worker.settings run.old.until_empty connection.old connection.new
         (standing_of run.old.worker (⟦<Jobs<C, D> as Handler>⟧.history jobs.old))) }
     ensures err { OnErr result (StopsSo run.old.worker.settings connection.old connection.new
@@ -282,7 +289,8 @@ fn make_search(
     to: Option<GiveUp>,
 ) -> Result<Option<DeadLetterSearch>>
     ensures settings { OnOk result (settings.new ≡ settings_with to settings.old) }
-    ensures search { IfOk result (λ search. is_some search ≡ is_some to) }
+    ensures search { IfOk result (λ search. option_map searcher_of search
+        ≡ option_map (searcher_by settings.old) to) }
 {
     match to {
         Some(to) => Ok(Some(DeadLetterSearch::new(alloc, settings, to)?)),

@@ -1,12 +1,15 @@
 -- A run of the program, by its options and by its words.
-use Rattle.std.specs.Prelude.{◌≡◌, [], IsTrue, List, None, Option, Some, String, string_bytes, true}
+use Rattle.std.specs.Prelude.{◌≡◌, [], ℕ, IsTrue, List, None, Option, Some, String, string_bytes, true}
 use Rattle.std.specs.declared.alloc.Global.{Global}
 use Rattle.command_lines.specs.Words.{Text}
 use Rattle.redis_connection.specs.Link.{Link}
 use Rattle.model_workers.specs.Loops.Loop.{Drains, Loops}
 use Rattle.model_workers.specs.Loops.Shown.{Way}
 use Rattle.worker.specs.Session.{Standing}
+use Rattle.worker.specs.DeadLetters.Dead.{IsCounted, IsSearched, Searcher, searcher_of}
+use Rattle.worker.specs.declared.dead_letters.search.DeadLetterSearch.{DeadLetterSearch}
 use Rattle.worker.specs.declared.dead_letters.search.GiveUp.{GiveUp}
+use Rattle.worker.specs.declared.state.Asked.{Asked}
 use Rattle.worker.specs.declared.state.Settings.{Settings}
 use Rattle.worker_table.specs.Kept.{Kept}
 use Rattle.worker_table.specs.Lived.{Leads}
@@ -21,6 +24,25 @@ use Rattle.stream_sqlite.specs.declared.options.Options.{Options}
 abbrev pub settings_with : Option GiveUp → Settings → Settings
 settings_with None settings = settings
 settings_with (Some to) settings = record settings { one_at_a_time = true }
+
+-- the search for dead letters: it gives up entries of this worker, from this delivery count on, and their letters go to
+-- this stream
+abbrev pub searcher_by : Settings → GiveUp → Searcher
+searcher_by settings to = record {
+  claimer = record {
+    key = string_bytes settings.key;
+    group = string_bytes settings.group;
+    consumer = string_bytes settings.consumer;
+    min_idle = settings.min_idle;
+  };
+  names = (string_bytes settings.key, string_bytes settings.group, string_bytes to.stream);
+  deliveries = to.deliveries;
+}
+
+-- the search that is due after a command, over a connection
+abbrev pub SearchesAfter : DeadLetterSearch → Asked → Link → Link → Type 0
+SearchesAfter d asked old new =
+    (reads : ℕ) × IsCounted d.reads asked reads × IsSearched (searcher_of d) d.begun d.every reads old new
 
 -- a worker with these settings, whose handler began so, went this way over the connection
 pub record IsRun (settings : Settings) (way : Settings → Way) (kept : Kept) (old new : Link) : Type 0 where

@@ -1,7 +1,9 @@
 //! The loop of the program: it sends commands, and takes the replies.
-ghost use Rattle.std.specs.Prelude.{◌≡◌, IfOk, IsTrue, OnErr, OnOk, false};
+ghost use Rattle.std.specs.Prelude.{◌≡◌, IfOk, IfSome, IsTrue, OnErr, OnOk, false, option_map};
 ghost use Rattle.worker.specs.DeadLetters.Besides.{Besides, BreaksBesides};
+ghost use Rattle.worker.specs.DeadLetters.Dead.{searcher_of};
 ghost use Rattle.model_workers.specs.Loops.Loop.{Loops, Stops};
+ghost use Rattle.stream_sqlite.specs.Program.{SearchesAfter};
 ghost use Rattle.worker_table.specs.Lived.{Leads};
 ghost use Rattle.worker.specs.Session.{standing_of};
 
@@ -120,6 +122,9 @@ fn look<R: Read + Drop, W: Write + Drop>(
     asked: Asked,
     in_hand: bool,
 ) -> Result<()>
+    ensures searches { in_hand ≡ false → IfSome dead.old (λ d. d.waits ≡ false
+        → OnOk result (SearchesAfter d asked connection.old connection.new)) }
+    ensures same { option_map searcher_of dead.new ≡ option_map searcher_of dead.old }
     ensures ok { OnOk result (Besides connection.old connection.new) }
     ensures err { OnErr result (BreaksBesides connection.old connection.new) }
 {

@@ -22,11 +22,12 @@
 //! `--until-empty`, 2 for a wrong argument, and otherwise 1, with the reason. `--help` lists its arguments.
 #![tactic(auto)]
 
-ghost use Rattle.std.specs.Prelude.{◌≡◌, ◌<◌, ◌≤◌, ◌⊎◌, IfOk, IsErr, IsOk, IsTrue, Ok, OnErr, OnOk, is_some, map, string_bytes};
+ghost use Rattle.std.specs.Prelude.{◌≡◌, ◌<◌, ◌≤◌, ◌⊎◌, IfOk, IsErr, IsOk, IsTrue, Ok, OnErr, OnOk, map, option_map, string_bytes};
 ghost use Rattle.std.specs.Process.{exit_status};
 ghost use Rattle.command_lines.specs.Words.{asks_help};
 ghost use Rattle.model_workers.specs.Loops.Loop.{Drains, Loops};
-ghost use Rattle.stream_sqlite.specs.Program.{EndsAsSaid, EndsBy, IsRun, RunsAsSaid, RunsBy, SendsAll, SendsSome, settings_with};
+ghost use Rattle.stream_sqlite.specs.Program.{EndsAsSaid, EndsBy, IsRun, RunsAsSaid, RunsBy, SendsAll, SendsSome, searcher_by, settings_with};
+ghost use Rattle.worker.specs.DeadLetters.Dead.{searcher_of};
 
 mod drain;
 mod masked;
@@ -303,7 +304,8 @@ struct Run {
 fn begin_run(alloc: Global, work: Work) -> Result<Run>
     ensures settings { IfOk result (λ run. run.worker.settings ≡ settings_with work.dead work.settings) }
     ensures until_empty { IfOk result (λ run. run.until_empty ≡ work.until_empty) }
-    ensures dead { IfOk result (λ run. is_some run.dead ≡ is_some work.dead) }
+    ensures dead { IfOk result (λ run. option_map searcher_of run.dead
+        ≡ option_map (searcher_by work.settings) work.dead) }
 {
     let mut settings = work.settings;
     let dead = make_search(alloc, &mut settings, work.dead)?;
@@ -323,7 +325,8 @@ fn make_search(
     to: Option<GiveUp>,
 ) -> Result<Option<DeadLetterSearch>>
     ensures settings { OnOk result (settings.new ≡ settings_with to settings.old) }
-    ensures search { IfOk result (λ search. is_some search ≡ is_some to) }
+    ensures search { IfOk result (λ search. option_map searcher_of search
+        ≡ option_map (searcher_by settings.old) to) }
 {
     match to {
         Some(to) => Ok(Some(DeadLetterSearch::new(alloc, settings, to)?)),

@@ -1,7 +1,7 @@
 use Rattle.std.proofs.Common.{◌∙◌, refl, subst, ℕ, Bool, List, Option}
 use Rattle.std.specs.Prelude.{string_bytes}
 use Rattle.worker_jobs.specs.Talk.{Talk, talk_of}
-use Rattle.worker.proofs.DeadLettersLemmas.DeadLemmas.{on_err, on_ok}
+use Rattle.worker.proofs.DeadLettersLemmas.DeadLemmas.{on_err}
 use Rattle.stream_run.specs.Rounds.{Rounds, Stops, ends}
 use Rattle.stream_run.proofs.RoundsLemmas.{rounds_both, rounds_end, rounds_stop}
 use Rattle.worker.specs.Session.{Standing, standing_of}
@@ -16,8 +16,8 @@ stands w over stream sent coming = standing_of w (talk_of over stream sent comin
 pub loop-init : goal.loop-init
 loop-init g c = record { settings = refl; rounds = ends c.args.connection.now _ }
 
-pub returns-in_err-asked-clause-err : goal.returns-in_err-asked-clause-err
-returns-in_err-asked-clause-err g c =
+pub returns-in_err-last-clause-err : goal.returns-in_err-last-clause-err
+returns-in_err-last-clause-err g c =
     let x = stands c.loop.worker c.loop.jobs.over (string_bytes c.loop.jobs.stream) (g.D.Write.contents c.loop.jobs.lines)
     (g.C.Read.remaining c.loop.jobs.replies) in
     let y = stands c.turn.new.worker c.turn.new.jobs.over (string_bytes c.turn.new.jobs.stream)
@@ -25,7 +25,7 @@ returns-in_err-asked-clause-err g c =
     on_err c.from_residual.result
     (rounds_stop c.args.worker.now.settings c.args.connection.now c.loop.connection c.turn.new.connection _ x y
     c.loop.invariant.rounds (subst (λ (s : Settings). Stops s c.loop.connection c.turn.new.connection x y)
-    c.loop.invariant.settings c.in_err-asked.ensures.err))
+    c.loop.invariant.settings c.in_err-last.ensures.err))
 
 pub returns-in_err-settle-clause-err : goal.returns-in_err-settle-clause-err
 returns-in_err-settle-clause-err g c =
@@ -39,7 +39,7 @@ returns-in_err-settle-clause-err g c =
     (rounds_stop c.args.worker.now.settings c.args.connection.now c.turn.new.connection c.settle.new.connection _ y z
     (rounds_both c.args.worker.now.settings c.args.connection.now c.loop.connection c.turn.new.connection _ x y
     c.loop.invariant.rounds (subst (λ (s : Settings). Rounds s c.loop.connection x c.turn.new.connection y)
-    c.loop.invariant.settings c.in_ok-asked.ensures.ok))
+    c.loop.invariant.settings c.in_ok-last.ensures.ok))
     (subst (λ (s : Settings). Stops s c.turn.new.connection c.settle.new.connection y z)
     (c.turn.ensures.settings ∙ c.loop.invariant.settings) c.in_err-settle.ensures.err))
 
@@ -51,40 +51,39 @@ returns-then-is_over-clause-ok g c =
     (g.D.Write.contents c.turn.new.jobs.lines) (g.C.Read.remaining c.turn.new.jobs.replies) in
     let z = stands c.settle.new.worker c.settle.new.jobs.over (string_bytes c.settle.new.jobs.stream)
     (g.D.Write.contents c.settle.new.jobs.lines) (g.C.Read.remaining c.settle.new.jobs.replies) in
-    on_ok c.ended.result
-    (rounds_both c.args.worker.now.settings c.args.connection.now c.turn.new.connection c.settle.new.connection _ y z
+    rounds_both c.args.worker.now.settings c.args.connection.now c.turn.new.connection c.settle.new.connection _ y z
     (rounds_both c.args.worker.now.settings c.args.connection.now c.loop.connection c.turn.new.connection _ x y
     c.loop.invariant.rounds (subst (λ (s : Settings). Rounds s c.loop.connection x c.turn.new.connection y)
-    c.loop.invariant.settings c.in_ok-asked.ensures.ok))
+    c.loop.invariant.settings c.in_ok-last.ensures.ok))
     (subst (λ (s : Settings). Rounds s c.turn.new.connection y c.settle.new.connection z)
-    (c.turn.ensures.settings ∙ c.loop.invariant.settings) c.in_ok-settle.ensures.ok))
+    (c.turn.ensures.settings ∙ c.loop.invariant.settings) c.in_ok-settle.ensures.ok)
 
-pub returns-then-is_over-clause-err : goal.returns-then-is_over-clause-err
-returns-then-is_over-clause-err g c =
+pub returns-in_err-ended-clause-err : goal.returns-in_err-ended-clause-err
+returns-in_err-ended-clause-err g c =
     let x = stands c.loop.worker c.loop.jobs.over (string_bytes c.loop.jobs.stream) (g.D.Write.contents c.loop.jobs.lines)
     (g.C.Read.remaining c.loop.jobs.replies) in
     let y = stands c.turn.new.worker c.turn.new.jobs.over (string_bytes c.turn.new.jobs.stream)
     (g.D.Write.contents c.turn.new.jobs.lines) (g.C.Read.remaining c.turn.new.jobs.replies) in
     let z = stands c.settle.new.worker c.settle.new.jobs.over (string_bytes c.settle.new.jobs.stream)
     (g.D.Write.contents c.settle.new.jobs.lines) (g.C.Read.remaining c.settle.new.jobs.replies) in
-    on_err c.ended.result
+    on_err c.from_residual-in_err-ended.result
     (rounds_end c.args.worker.now.settings c.args.connection.now c.settle.new.connection _ z
     (rounds_both c.args.worker.now.settings c.args.connection.now c.turn.new.connection c.settle.new.connection _ y z
     (rounds_both c.args.worker.now.settings c.args.connection.now c.loop.connection c.turn.new.connection _ x y
     c.loop.invariant.rounds (subst (λ (s : Settings). Rounds s c.loop.connection x c.turn.new.connection y)
-    c.loop.invariant.settings c.in_ok-asked.ensures.ok))
+    c.loop.invariant.settings c.in_ok-last.ensures.ok))
     (subst (λ (s : Settings). Rounds s c.turn.new.connection y c.settle.new.connection z)
     (c.turn.ensures.settings ∙ c.loop.invariant.settings) c.in_ok-settle.ensures.ok)))
 
-pub returns-then-jobs-seen-clause-ok : goal.returns-then-jobs-seen-clause-ok
-returns-then-jobs-seen-clause-ok g c =
+pub returns-then-jobs-last-clause-ok : goal.returns-then-jobs-last-clause-ok
+returns-then-jobs-last-clause-ok g c =
     let x = stands c.loop.worker c.loop.jobs.over (string_bytes c.loop.jobs.stream) (g.D.Write.contents c.loop.jobs.lines)
     (g.C.Read.remaining c.loop.jobs.replies) in
     let y = stands c.turn.new.worker c.turn.new.jobs.over (string_bytes c.turn.new.jobs.stream)
     (g.D.Write.contents c.turn.new.jobs.lines) (g.C.Read.remaining c.turn.new.jobs.replies) in
     rounds_both c.args.worker.now.settings c.args.connection.now c.loop.connection c.turn.new.connection _ x y
     c.loop.invariant.rounds (subst (λ (s : Settings). Rounds s c.loop.connection x c.turn.new.connection y)
-    c.loop.invariant.settings c.in_ok-asked.ensures.ok)
+    c.loop.invariant.settings c.in_ok-last.ensures.ok)
 
 pub loop-preserved : goal.loop-preserved
 loop-preserved g c =
@@ -96,5 +95,5 @@ loop-preserved g c =
       settings = c.turn.ensures.settings ∙ c.loop.invariant.settings;
       rounds = rounds_both c.args.worker.now.settings c.args.connection.now c.loop.connection c.turn.new.connection _ x y
           c.loop.invariant.rounds (subst (λ (s : Settings). Rounds s c.loop.connection x c.turn.new.connection y)
-          c.loop.invariant.settings c.in_ok-asked.ensures.ok);
+          c.loop.invariant.settings c.in_ok-last.ensures.ok);
     }
