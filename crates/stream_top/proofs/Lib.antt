@@ -1,4 +1,5 @@
--- Lemmas on what the program asks, and on its status.
+-- Lemmas on what the program asks, on the values that it reads, and on its status.
 mod AskedLemmas
 mod SaidLemmas
+mod ShapeLemmas
 mod StatusLemmas

@@ -5,3 +5,5 @@ pub mod Figures
 pub mod Json
 pub mod Measured
 pub mod Metrics
+pub mod Text
+pub mod Shape

@@ -15,14 +15,20 @@
 //! it or, with status 1, only the reason. For a wrong argument it ends with 2. `--help` lists its arguments.
 #![tactic(auto)]
 
-ghost use Rattle.std.specs.Prelude.{◌≡◌, ◌<◌, ◌≤◌, ◌⊎◌, map, string_bytes, IfOk, IsErr, IsTrue, OnErr, OnOk};
+ghost use Rattle.std.specs.Prelude.{◌≡◌, ◌<◌, ◌≤◌, ◌⊎◌, map, option_map, string_bytes, IfOk, IsErr, IsTrue, OnErr, OnOk, Some};
 ghost use Rattle.std.specs.List.{list_any};
 ghost use Rattle.std.specs.Process.{exit_status};
 ghost use Rattle.command_lines.specs.Words.{asks_help};
-ghost use Rattle.redis_wire.specs.Reply.{answer};
-ghost use Rattle.stream_top.specs.Asked.{Ends, EndsAsSaid, Hears, Measures, MeasuresEach, MeasuresOften, SaysSome, WaitsFor, first_keys};
+ghost use Rattle.redis_connection.specs.Passing.{ReceivesAnswer};
+ghost use Rattle.redis_resp.specs.Tree.{Tree};
+ghost use Rattle.redis_streams.specs.InfoFullMeaning.{full_meaning};
+ghost use Rattle.redis_wire.specs.Reply.{answer, value};
+ghost use Rattle.stream_top.specs.Asked.{AreFigures, Ends, EndsAsSaid, Hears, HearsOfKey, Measures, MeasuresAt, MeasuresEach};
+ghost use Rattle.stream_top.specs.Asked.{MeasuresOften, SaysSome, WaitsFor, first_keys, found_or_empty};
 ghost use Rattle.stream_top.specs.Measured.{each_once, is_no_such_key, is_of, key_of, milliseconds, name_of};
 ghost use Rattle.stream_top.specs.Options.{key_bytes, text_of};
+ghost use Rattle.stream_top.specs.Shape.{shape_of, shape_of_pair};
+ghost use Rattle.stream_top.specs.Text.{json_line, text_in};
 
 mod figures;
 mod json_text;
@@ -62,7 +68,9 @@ fn ask<R: Read + Drop, W: Write + Drop>(
     connection: &mut Connection<R, W>,
     key: &RawBytes,
 ) -> Result<(Option<StreamInfoFullReply>, usize)>
-    ensures { OnOk result (Measures key.now.0.items connection.old connection.new) }
+    ensures asked { OnOk result (Measures key.now.0.items connection.old connection.new) }
+    ensures heard { IfOk result (λ asked. MeasuresAt key.now.0.items asked.1 (option_map full_meaning asked.0)
+        connection.old connection.new) }
 {
     connection.send(alloc, &"TIME")?;
     connection.send(alloc, &xinfo_stream_full_count(key, COUNT))?;
@@ -201,7 +209,9 @@ fn show_text<R: Read + Drop, W: Write + Drop, P: Eprint + AllocGlobal>(
 }
 
 /// The text of these figures, in this form.
-fn format_text(alloc: Global, streams: &[StreamFigures], form: Form) -> Result<String> {
+fn format_text(alloc: Global, streams: &[StreamFigures], form: Form) -> Result<String>
+    ensures { IfOk result (λ text. string_bytes text ≡ text_in form streams.now) }
+{
     let text = match form {
         Form::Json => json_line(alloc, streams)?,
         Form::OpenMetrics => metrics_text(alloc, streams)?,
@@ -213,7 +223,9 @@ fn format_text(alloc: Global, streams: &[StreamFigures], form: Form) -> Result<S
 }
 
 /// The document of JSON, as a line.
-fn json_line(alloc: Global, streams: &[StreamFigures]) -> Result<Vec<u8>, AllocError> {
+fn json_line(alloc: Global, streams: &[StreamFigures]) -> Result<Vec<u8>, AllocError>
+    ensures { IfOk result (λ line. line.items ≡ json_line streams.now) }
+{
     let mut line = json_text(alloc, streams)?;
     line.push(b'\n')?;
     Ok(line)
@@ -252,13 +264,24 @@ fn measure_one<R: Read + Drop, W: Write + Drop>(
 ) -> Result<StreamFigures>
     ensures key { IfOk result (λ figures. string_bytes figures.key ≡ string_bytes key.now.name) }
     ensures asked { OnOk result (Measures (key_bytes key.now) connection.old connection.new) }
+    ensures figures { IfOk result (λ figures. AreFigures key.now figures connection.old connection.new) }
 {
     let (found, now) = ask(alloc, connection, &key.bytes)?;
-    let stream = match found {
-        Some(stream) => stream,
-        None => StreamInfoFullReply::empty(alloc)?,
-    };
+    let stream = find_or_empty(alloc, found)?;
     Ok(figures_of(alloc, &key.name, &stream, now)?)
+}
+
+/// The stream that was found; an empty one if there is none.
+fn find_or_empty(
+    alloc: Global,
+    found: Option<StreamInfoFullReply>,
+) -> Result<StreamInfoFullReply, AllocError>
+    ensures { IfOk result (λ stream. full_meaning stream ≡ found_or_empty (option_map full_meaning found)) }
+{
+    match found {
+        Some(stream) => Ok(stream),
+        None => StreamInfoFullReply::empty(alloc),
+    }
 }
 
 /// The arguments of the program.
@@ -298,7 +321,9 @@ fn receive_as<M: FromRedisValue, R: Read + Drop, W: Write + Drop>(
     alloc: Global,
     connection: &mut Connection<R, W>,
 ) -> Result<M, AskError>
-    ensures { OnOk result (Hears connection.old connection.new) }
+    ensures hears { OnOk result (Hears connection.old connection.new) }
+    ensures reads { IfOk result (λ m. (t : Tree) × ReceivesAnswer connection.old connection.new (value t)
+        × (M.reading t ≡ Some (M.meaning m))) }
 {
     let reply = connection.receive(alloc)?;
     Ok(from_reply::<M>(alloc, reply)?)
@@ -316,7 +341,8 @@ fn receive_of_key<R: Read + Drop, W: Write + Drop>(
     alloc: Global,
     connection: &mut Connection<R, W>,
 ) -> Result<Option<Value>, AskError>
-    ensures { OnOk result (Hears connection.old connection.new) }
+    ensures hears { OnOk result (Hears connection.old connection.new) }
+    ensures of_key { IfOk result (λ found. HearsOfKey found connection.old connection.new) }
 {
     let reply = connection.receive(alloc)?;
     if is_no_such_key(&reply) {
@@ -562,7 +588,9 @@ fn push_table(text: &mut String, cells: &[String]) -> Result<(), AllocError> {
 
 /// A copy of a value in which each text is UTF-8.
 #[cycle(legible)]
-fn legible(alloc: Global, value: &Value) -> Result<Value, AllocError> {
+fn legible(alloc: Global, value: &Value) -> Result<Value, AllocError>
+    ensures { IfOk result (λ copy. shape_of copy ≡ shape_of value.now) }
+{
     match value {
         Value::BulkString(bytes) => Ok(Value::BulkString(escaped(alloc, bytes)?.into_bytes())),
         Value::Array(values) => Ok(Value::Array(legible_all(alloc, values)?)),
@@ -574,7 +602,9 @@ fn legible(alloc: Global, value: &Value) -> Result<Value, AllocError> {
 }
 
 #[cycle(legible)]
-fn legible_all(alloc: Global, values: &Vec<Value>) -> Result<Vec<Value>, AllocError> {
+fn legible_all(alloc: Global, values: &Vec<Value>) -> Result<Vec<Value>, AllocError>
+    ensures { IfOk result (λ copies. map shape_of copies.items ≡ map shape_of values.now.items) }
+{
     let mut copies = Vec::with_capacity(alloc, values.len())?;
     for value in values {
         copies.push(legible(alloc, value)?)?;
@@ -586,7 +616,9 @@ fn legible_all(alloc: Global, values: &Vec<Value>) -> Result<Vec<Value>, AllocEr
 fn legible_pairs(
     alloc: Global,
     pairs: &Vec<(Value, Value)>,
-) -> Result<Vec<(Value, Value)>, AllocError> {
+) -> Result<Vec<(Value, Value)>, AllocError>
+    ensures { IfOk result (λ copies. map shape_of_pair copies.items ≡ map shape_of_pair pairs.now.items) }
+{
     let mut copies = Vec::with_capacity(alloc, pairs.len())?;
     for pair in pairs {
         let name = legible(alloc, &pair.0)?;
