@@ -1,4 +1,5 @@
 //! The words of the commands WAIT and WAITAOF, and the readings of their replies.
+use crate::check_same;
 use redis_resp::{ParsingError, ToRedisArgs, Value};
 use std::alloc::{AllocError, Global};
 use std::process::Abort;
@@ -31,7 +32,7 @@ fn files_are_asked(rt: HostRuntime) {
 
 #[test]
 fn replicas_are_counted(rt: HostRuntime) {
-    assert_eq!(rt; wait(2, 1).read(rt.alloc(), Value::Int(3)), Ok(3));
+    check_same(&rt, wait(2, 1).read(rt.alloc(), Value::Int(3)), Ok(3));
     assert!(rt; wait(2, 1).read(rt.alloc(), Value::Nil).is_err());
 }
 
@@ -43,9 +44,10 @@ fn both(alloc: Global) -> Result<Value, AllocError> {
 #[test]
 fn files_are_counted(rt: HostRuntime) {
     let reply = both(rt.alloc()).expect(&rt, "memory");
-    assert_eq!(rt; wait_aof(1, 1, 1).read(rt.alloc(), reply), Ok((1, 1)));
-    assert_eq!(rt;
+    check_same(&rt, wait_aof(1, 1, 1).read(rt.alloc(), reply), Ok((1, 1)));
+    check_same(
+        &rt,
         wait_aof(1, 1, 1).read(rt.alloc(), Value::Int(1)),
-        Err(ParsingError::NotTuple(2))
+        Err(ParsingError::NotTuple(2)),
     );
 }

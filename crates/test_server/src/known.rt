@@ -1,4 +1,5 @@
 //! Numbers of ids, the set of known ids, and the ids in files. Each expected result was computed by hand.
+use crate::check_same;
 use std::alloc::AllocError;
 use std::process::Abort;
 use worker_journal::known_ids::{FileError, KnownId, KnownIds, number_of, numbers_of_file};
@@ -11,16 +12,17 @@ fn id(ms: u64, seq: u64) -> u128 {
 
 #[test]
 fn an_id_has_the_number_of_its_parts(rt: HostRuntime) {
-    assert_eq!(rt; number_of(b"0-0"), Some(0));
-    assert_eq!(rt; number_of(b"0-7"), Some(7));
-    assert_eq!(rt; number_of(b"1-0"), Some(18_446_744_073_709_551_616));
-    assert_eq!(rt; number_of(b"12-34"), Some(id(12, 34)));
-    assert_eq!(rt;
+    check_same(&rt, number_of(b"0-0"), Some(0));
+    check_same(&rt, number_of(b"0-7"), Some(7));
+    check_same(&rt, number_of(b"1-0"), Some(18_446_744_073_709_551_616));
+    check_same(&rt, number_of(b"12-34"), Some(id(12, 34)));
+    check_same(
+        &rt,
         number_of(b"1526919030474-55"),
-        Some(id(1_526_919_030_474, 55))
+        Some(id(1_526_919_030_474, 55)),
     );
     let last = b"18446744073709551615-18446744073709551615".as_slice();
-    assert_eq!(rt; number_of(last), Some(u128::MAX));
+    check_same(&rt, number_of(last), Some(u128::MAX));
 }
 
 #[test]
@@ -50,8 +52,8 @@ fn another_text_has_none(rt: HostRuntime) {
 fn an_id_keeps_its_number_and_its_place(rt: HostRuntime) {
     for number in [0u128, 7, id(1, 0), id(12, 34), u128::MAX] {
         let id = KnownId::new(number, 340);
-        assert_eq!(rt; id.number(), number);
-        assert_eq!(rt; id.place(), 340);
+        check_same(&rt, id.number(), number);
+        check_same(&rt, id.place(), 340);
     }
 }
 
@@ -129,10 +131,10 @@ fn told_by(
 
 /// Checks that these are the ids, and these the offsets of their lines.
 fn check_ids(rt: &impl Abort, told: &[KnownId], ids: &[(u128, usize)]) {
-    assert_eq!(rt; told.len(), ids.len());
+    check_same(rt, told.len(), ids.len());
     for (told, (number, place)) in told.iter().zip(ids) {
-        assert_eq!(rt; told.number(), *number);
-        assert_eq!(rt; told.place(), *place);
+        check_same(rt, told.number(), *number);
+        check_same(rt, told.place(), *place);
     }
 }
 
@@ -145,7 +147,7 @@ fn check_told(rt: &(impl AllocGlobal + Abort), bytes: &[u8], json: bool, ids: &[
 
 fn check_untold(rt: &(impl AllocGlobal + Abort), bytes: &[u8], json: bool, line: u64) {
     match told_by(rt, bytes, json) {
-        Err(FileError::NoEntry(number)) => assert_eq!(rt; number, line),
+        Err(FileError::NoEntry(number)) => check_same(rt, number, line),
         _ => panic!(rt; "there is an id in line {line}"),
     }
 }

@@ -10,6 +10,7 @@
 mod cell;
 mod error;
 pub mod laws;
+mod memory;
 mod outbox;
 mod post;
 mod put;
@@ -19,6 +20,7 @@ mod table;
 
 pub use cell::{Cell, Column, Kind};
 pub use error::TableError;
+pub use memory::{MemoryOutbox, MemoryTable};
 pub use outbox::WithOutbox;
 pub use post::{Post, PostedRow};
 pub use put::{ROWS_AT_ONCE, put_all};

@@ -1,9 +1,10 @@
 -- The command that is sent for a row in memory.
 use Rattle.std.specs.Prelude.{List, map}
-use Rattle.worker_table.specs.RowTable.OfRow.{row_of}
+use Rattle.worker_table.specs.RowTable.OfRow.{row_of, rows_of}
 use Rattle.worker_table.specs.RowTable.Posts as posts
 use Rattle.worker_table.specs.declared.row_table.post.Post.{Post}
 use Rattle.worker_table.specs.declared.row_table.post.PostedRow.{PostedRow}
+use Rattle.worker_table.specs.declared.row_table.row.Row.{Row}
 
 -- its key, its command and the query for it
 abbrev pub post_of : Post → posts.Post
@@ -16,3 +17,7 @@ posted_of p = (row_of p.row, (p.command.items, p.question.items))
 -- these, in order
 abbrev pub all_posted : List PostedRow → List posts.Posted
 all_posted ps = map posted_of ps
+
+-- these rows and these posts, in order
+abbrev pub stored_of : List Row → List Post → posts.Stored
+stored_of rs ps = record { rows = rows_of rs; posts = map post_of ps }

@@ -14,7 +14,7 @@ pub struct PostedRow {
 }
 
 /// The command that is to be sent for the row of a key.
-#[derive(Drop)]
+#[derive(Clone, Drop)]
 pub struct Post {
     pub first: u64,
     pub second: u64,

@@ -4,7 +4,7 @@ ghost use Rattle.std.specs.Prelude.{◌≡◌};
 use crate::row_table::cell::Cell;
 
 /// A row: a key of two numbers, and values.
-#[derive(Drop)]
+#[derive(Clone, Drop)]
 pub struct Row {
     pub first: u64,
     pub second: u64,
