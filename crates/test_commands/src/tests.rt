@@ -14,6 +14,7 @@ mod vectors;
 
 use redis_args::{FixedArgs, ToRedisArgs, WriteError};
 use std::alloc::{AllocError, Global};
+use std::fmt::Debug;
 use std::process::Abort;
 
 /// A text on the heap.
@@ -35,6 +36,11 @@ fn words_in(alloc: Global, line: &str) -> Result<Vec<Vec<u8>>, AllocError> {
         words.push(Vec::from_slice(alloc, word.as_bytes())?)?;
     }
     Ok(words)
+}
+
+/// Checks that the two values are equal. (`assert_eq!` at each place costs many times as much to prove.)
+fn check_same<T: PartialEq + Debug + Drop>(rt: &impl Abort, found: T, wanted: T) {
+    assert_eq!(rt; found, wanted);
 }
 
 /// Checks that the value writes the words of this line, each one argument: as a list, after the

@@ -1,6 +1,6 @@
 //! Argument lists, and the options that are parsed from them.
 use crate::tests::sentences::rows::ROWS;
-use crate::tests::words_of;
+use crate::tests::{check_same, words_of};
 use redis_args::ToRedisArgs;
 use std::process::Abort;
 use stream_option_parsing::{
@@ -20,7 +20,7 @@ fn check_read<T: ToRedisArgs + Drop>(
     wanted: usize,
 ) {
     let (options, count) = answer.expect(rt, "a sentence");
-    assert_eq!(rt; count, wanted);
+    check_same(rt, count, wanted);
     let written = options.to_redis_args(rt.alloc()).expect(rt, "memory");
     assert!(rt;
         args.get(..count) == Some(written.as_slice()),

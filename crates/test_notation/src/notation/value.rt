@@ -133,12 +133,29 @@ fn boolean_in(text: &[u8]) -> Result<(Value, &[u8]), NotationError>
     ensures { IfOk result (λ r. length r.1.now < length text.now) }
 {
     let (word, rest) = word_in(expect_mark(text, '(')?)?;
-    let truth = match word {
-        b"true" => true,
-        b"false" => false,
-        _ => return Err(NotationError::NotBoolean),
-    };
-    Ok((Value::Boolean(truth), expect_mark(rest, ')')?))
+    match truth_of(word) {
+        Some(truth) => close_value(Value::Boolean(truth), rest),
+        None => Err(NotationError::NotBoolean),
+    }
+}
+
+/// Parses `true` or `false`.
+fn truth_of(word: &[u8]) -> Option<bool> {
+    match word {
+        b"true" => Some(true),
+        b"false" => Some(false),
+        _ => None,
+    }
+}
+
+/// `)` after a value
+fn close_value(value: Value, text: &[u8]) -> Result<(Value, &[u8]), NotationError>
+    ensures { IfOk result (λ r. length r.1.now < length text.now) }
+{
+    match strip_mark(text, ')') {
+        Some(rest) => Ok((value, rest)),
+        None => Err(NotationError::NoMark(')')),
+    }
 }
 
 /// `(text)`
@@ -146,7 +163,7 @@ fn simple_in(alloc: Global, text: &[u8]) -> Result<(Value, &[u8]), NotationError
     ensures { IfOk result (λ r. length r.1.now < length text.now) }
 {
     let (text, rest) = text_in(alloc, expect_mark(text, '(')?)?;
-    Ok((Value::SimpleString(text), expect_mark(rest, ')')?))
+    close_value(Value::SimpleString(text), rest)
 }
 
 /// `(text, text)`
@@ -155,10 +172,7 @@ fn verbatim_in(alloc: Global, text: &[u8]) -> Result<(Value, &[u8]), NotationErr
 {
     let (format, rest) = text_in(alloc, expect_mark(text, '(')?)?;
     let (text, rest) = text_in(alloc, expect_mark(rest, ',')?)?;
-    Ok((
-        Value::VerbatimString { format, text },
-        expect_mark(rest, ')')?,
-    ))
+    close_value(Value::VerbatimString { format, text }, rest)
 }
 
 /// `(byte, ..)`

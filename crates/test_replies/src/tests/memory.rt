@@ -3,6 +3,7 @@
 //!
 //! `tools/sweep-refused-memory` runs the test with `refused_memory` in its name with each request
 //! refused in turn.
+use crate::tests::check_same;
 use indexmap::IndexMap;
 use redis_resp::{FromRedisValue, ParsingError, RawBytes, Value};
 use redis_streams::{
@@ -14,7 +15,7 @@ use redis_streams::{
     StreamPendingId, StreamPendingReply, StreamRangeReply, StreamReadReply, XAckDelStatusCode,
     XDelExStatusCode,
 };
-use std::alloc::AllocError;
+use std::alloc::{AllocError, Global};
 use std::collections::{BTreeMap, HashMap};
 use std::process::Abort;
 use test_notation::{NotationError, PrintedForm, read_value};
@@ -61,7 +62,7 @@ fn check_printed<T: PrintedForm + Drop>(
     text: &str,
 ) -> Result<(), ParsingError> {
     let printed = record?.printed(rt.alloc())?;
-    assert_eq!(rt; printed.as_str(), text);
+    check_same(rt, printed.as_str(), text);
     Ok(())
 }
 
@@ -103,8 +104,8 @@ fn check_fields(rt: &(impl AllocGlobal + Abort), entry: &StreamId) -> Result<(),
     assert!(rt; text.is_some_and(|text| text.as_str() == "7"));
     let names = entry.get::<Vec<String>>(rt.alloc(), "names")?;
     assert!(rt; names.is_some_and(|names| names.len() == 2));
-    assert_eq!(rt; entry.get::<u16>(rt.alloc(), "f")?, Some(7));
-    assert_eq!(rt; entry.get::<u16>(rt.alloc(), "names")?, None);
+    check_same(rt, entry.get::<u16>(rt.alloc(), "f")?, Some(7));
+    check_same(rt, entry.get::<u16>(rt.alloc(), "names")?, None);
     let missing = entry.get::<String>(rt.alloc(), "missing")?;
     assert!(rt; missing.is_none());
     let none = entry.get::<Option<String>>(rt.alloc(), "none")?;
@@ -115,7 +116,7 @@ fn check_fields(rt: &(impl AllocGlobal + Abort), entry: &StreamId) -> Result<(),
 fn check_an_entry(rt: &(impl AllocGlobal + Abort)) -> Result<(), ParsingError> {
     let notation = "Array[Array[1-0, Array[f, 7, names, Array[a, b], none, Nil]]]";
     let reply = record_of::<StreamRangeReply>(rt, notation)?;
-    assert_eq!(rt; reply.ids.len(), 1);
+    check_same(rt, reply.ids.len(), 1);
     match reply.ids.first() {
         Some(entry) => check_fields(rt, entry),
         None => Ok(()),
@@ -123,11 +124,12 @@ fn check_an_entry(rt: &(impl AllocGlobal + Abort)) -> Result<(), ParsingError> {
 }
 
 // Checks that the empty record of the type has this printed form, and that a copy of a record has the record's.
+// (One call a function: several in one cost many times as much to prove.)
 macro_rules! check_copies {
-    ($rt:expr, $record:ty, $empty:literal, $notation:literal, $text:literal) => {
+    ($rt:expr, $record:ty, $empty:literal, $notation:literal, $text:literal) => {{
         check_printed($rt, <$record>::empty($rt.alloc()), $empty)?;
-        check_copy!($rt, $record, $notation, $text);
-    };
+        check_copy!($rt, $record, $notation, $text)
+    }};
 }
 
 // Checks that a copy of the record has this printed form.
@@ -136,108 +138,168 @@ macro_rules! check_copy {
         let record = record_of::<$record>($rt, $notation)?;
         let copy = record.try_clone($rt.alloc());
         drop(record);
-        check_printed($rt, copy, $text)?;
+        check_printed($rt, copy, $text)
     }};
 }
 
-fn check_copied_entries(rt: &(impl AllocGlobal + Abort)) -> Result<(), ParsingError> {
+fn check_copied_range(rt: &(impl AllocGlobal + Abort)) -> Result<(), ParsingError> {
     check_copies!(
         rt,
         StreamRangeReply,
         "-",
         "Map[1-0: Array[f, v]]",
         "1-0(f=v)"
-    );
+    )
+}
+
+fn check_copied_claim(rt: &(impl AllocGlobal + Abort)) -> Result<(), ParsingError> {
     check_copies!(
         rt,
         StreamClaimReply,
         "-",
         "Map[1-0: Map[f: v, g: Int 2]]",
         "1-0(f=v,g=2)"
-    );
+    )
+}
+
+fn check_copied_read(rt: &(impl AllocGlobal + Abort)) -> Result<(), ParsingError> {
     check_copies!(
         rt,
         StreamReadReply,
         "-",
         "Map[s: Array[Array[1-0, Map[f: v], Int 5, Int 2]]]",
         "s[1-0(f=v)@5#2]"
-    );
+    )
+}
+
+fn check_copied_autoclaim(rt: &(impl AllocGlobal + Abort)) -> Result<(), ParsingError> {
     check_copies!(
         rt,
         StreamAutoClaimReply,
         "next= claimed=[] deleted=[] invalid=false",
         "Array[0-0, Array[Nil, 1-0], Array[2-0]]",
         "next=0-0 claimed=[1-0()] deleted=[2-0] invalid=true"
-    );
-    Ok(())
+    )
 }
 
-fn check_copied_pending(rt: &(impl AllocGlobal + Abort)) -> Result<(), ParsingError> {
-    check_printed(rt, Ok(StreamPendingReply::default()), "empty")?;
+fn check_copied_entries(rt: &(impl AllocGlobal + Abort)) -> Result<(), ParsingError> {
+    check_copied_range(rt)?;
+    check_copied_claim(rt)?;
+    check_copied_read(rt)?;
+    check_copied_autoclaim(rt)
+}
+
+fn check_copied_summary(rt: &(impl AllocGlobal + Abort)) -> Result<(), ParsingError> {
     check_copy!(
         rt,
         StreamPendingReply,
         "Array[Int 1, 1-0, 2-0, Array[Array[c, 1]]]",
         "1 1-0 2-0 [c=1]"
-    );
+    )
+}
+
+fn check_copied_list(rt: &(impl AllocGlobal + Abort)) -> Result<(), ParsingError> {
     check_copies!(
         rt,
         StreamPendingCountReply,
         "-",
         "Array[Array[1-0, c, Int 5, Int 2]]",
         "1-0 c 5 2"
-    );
-    Ok(())
+    )
 }
 
-fn check_copied_information(rt: &(impl AllocGlobal + Abort)) -> Result<(), ParsingError> {
+fn check_copied_pending(rt: &(impl AllocGlobal + Abort)) -> Result<(), ParsingError> {
+    check_printed(rt, Ok(StreamPendingReply::default()), "empty")?;
+    check_copied_summary(rt)?;
+    check_copied_list(rt)
+}
+
+fn check_copied_stream(rt: &(impl AllocGlobal + Abort)) -> Result<(), ParsingError> {
     check_copies!(
         rt,
         StreamInfoStreamReply,
         "last= keys=0 nodes=0 groups=0 length=0 first=() final=()",
         "Map[length: Int 1, first-entry: Array[1-0, Map[f: v]]]",
         "last= keys=0 nodes=0 groups=0 length=1 first=1-0(f=v) final=()"
-    );
+    )
+}
+
+fn check_copied_idempotency(rt: &(impl AllocGlobal + Abort)) -> Result<(), ParsingError> {
     check_copies!(
         rt,
         StreamInfoStreamReplyWithIdempotency,
         "last= keys=0 nodes=0 groups=0 length=0 first=() final=() duration=0 maxsize=0 pids=0 tracked=0 added=0 duplicates=0",
         "Map[pids-tracked: +3]",
         "last= keys=0 nodes=0 groups=0 length=0 first=() final=() duration=0 maxsize=0 pids=3 tracked=0 added=0 duplicates=0"
-    );
+    )
+}
+
+fn check_copied_consumers(rt: &(impl AllocGlobal + Abort)) -> Result<(), ParsingError> {
     check_copies!(
         rt,
         StreamInfoConsumersReply,
         "-",
         "Array[Map[name: c, pending: 4]]",
         "c pending=4 idle=0"
-    );
+    )
+}
+
+fn check_copied_groups(rt: &(impl AllocGlobal + Abort)) -> Result<(), ParsingError> {
     check_copies!(
         rt,
         StreamInfoGroupsReply,
         "-",
         "Array[Map[name: g, lag: 9]]",
         "g consumers=0 pending=0 last= read=none lag=9"
-    );
-    Ok(())
+    )
+}
+
+fn check_copied_information(rt: &(impl AllocGlobal + Abort)) -> Result<(), ParsingError> {
+    check_copied_stream(rt)?;
+    check_copied_idempotency(rt)?;
+    check_copied_consumers(rt)?;
+    check_copied_groups(rt)
+}
+
+// Whether a copy of the empty part of a reply is empty.
+
+fn is_entry_copied(alloc: Global) -> Result<bool, AllocError> {
+    Ok(StreamId::empty(alloc)?.try_clone(alloc)?.is_empty())
+}
+
+fn is_stream_copied(alloc: Global) -> Result<bool, AllocError> {
+    Ok(StreamKey::empty(alloc)?.try_clone(alloc)?.ids.is_empty())
+}
+
+fn is_summary_copied(alloc: Global) -> Result<bool, AllocError> {
+    Ok(StreamPendingData::empty(alloc)?.try_clone(alloc)?.count == 0)
+}
+
+fn is_pending_copied(alloc: Global) -> Result<bool, AllocError> {
+    Ok(
+        StreamPendingId::empty(alloc)?
+            .try_clone(alloc)?
+            .times_delivered
+            == 0,
+    )
+}
+
+fn is_consumer_copied(alloc: Global) -> Result<bool, AllocError> {
+    Ok(StreamInfoConsumer::empty(alloc)?.try_clone(alloc)?.pending == 0)
+}
+
+fn is_group_copied(alloc: Global) -> Result<bool, AllocError> {
+    Ok(StreamInfoGroup::empty(alloc)?.try_clone(alloc)?.lag == None)
 }
 
 fn check_copied_parts(rt: &(impl AllocGlobal + Abort)) -> Result<(), ParsingError> {
     let alloc = rt.alloc();
-    assert!(rt; StreamId::empty(alloc)?.try_clone(alloc)?.is_empty());
-    assert!(rt; StreamKey::empty(alloc)?.try_clone(alloc)?.ids.is_empty());
-    assert_eq!(rt; StreamPendingData::empty(alloc)?.try_clone(alloc)?.count, 0);
-    assert_eq!(rt;
-        StreamPendingId::empty(alloc)?
-            .try_clone(alloc)?
-            .times_delivered,
-        0
-    );
-    assert_eq!(rt;
-        StreamInfoConsumer::empty(alloc)?.try_clone(alloc)?.pending,
-        0
-    );
-    assert_eq!(rt; StreamInfoGroup::empty(alloc)?.try_clone(alloc)?.lag, None);
+    assert!(rt; is_entry_copied(alloc)?);
+    assert!(rt; is_stream_copied(alloc)?);
+    assert!(rt; is_summary_copied(alloc)?);
+    assert!(rt; is_pending_copied(alloc)?);
+    assert!(rt; is_consumer_copied(alloc)?);
+    assert!(rt; is_group_copied(alloc)?);
     Ok(())
 }
 
@@ -265,33 +327,48 @@ fn check_full_information(rt: &(impl AllocGlobal + Abort)) -> Result<(), Parsing
     )
 }
 
-fn check_full_parts(rt: &(impl AllocGlobal + Abort)) -> Result<(), ParsingError> {
-    let alloc = rt.alloc();
-    check_printed(
+// Checks the printed form of a copy of the empty part of a reply.
+macro_rules! check_empty {
+    ($rt:expr, $part:ty, $text:literal) => {{
+        let empty = <$part>::empty($rt.alloc())?;
+        check_printed($rt, empty.try_clone($rt.alloc()), $text)
+    }};
+}
+
+fn check_empty_entry(rt: &(impl AllocGlobal + Abort)) -> Result<(), ParsingError> {
+    check_empty!(rt, StreamInfoFullEntry, "()")
+}
+
+fn check_empty_pending(rt: &(impl AllocGlobal + Abort)) -> Result<(), ParsingError> {
+    check_empty!(rt, StreamInfoFullPending, "  0 0")
+}
+
+fn check_empty_share(rt: &(impl AllocGlobal + Abort)) -> Result<(), ParsingError> {
+    check_empty!(rt, StreamInfoConsumerPending, " 0 0")
+}
+
+fn check_empty_consumer(rt: &(impl AllocGlobal + Abort)) -> Result<(), ParsingError> {
+    check_empty!(
         rt,
-        StreamInfoFullEntry::empty(alloc)?.try_clone(alloc),
-        "()",
-    )?;
-    check_printed(
-        rt,
-        StreamInfoFullPending::empty(alloc)?.try_clone(alloc),
-        "  0 0",
-    )?;
-    check_printed(
-        rt,
-        StreamInfoConsumerPending::empty(alloc)?.try_clone(alloc),
-        " 0 0",
-    )?;
-    check_printed(
-        rt,
-        StreamInfoFullConsumer::empty(alloc)?.try_clone(alloc),
-        " seen=0 active=none count=0 pending=[]",
-    )?;
-    check_printed(
-        rt,
-        StreamInfoFullGroup::empty(alloc)?.try_clone(alloc),
-        " last= read=none lag=none count=0 pending=[] consumers=[]",
+        StreamInfoFullConsumer,
+        " seen=0 active=none count=0 pending=[]"
     )
+}
+
+fn check_empty_group(rt: &(impl AllocGlobal + Abort)) -> Result<(), ParsingError> {
+    check_empty!(
+        rt,
+        StreamInfoFullGroup,
+        " last= read=none lag=none count=0 pending=[] consumers=[]"
+    )
+}
+
+fn check_full_parts(rt: &(impl AllocGlobal + Abort)) -> Result<(), ParsingError> {
+    check_empty_entry(rt)?;
+    check_empty_pending(rt)?;
+    check_empty_share(rt)?;
+    check_empty_consumer(rt)?;
+    check_empty_group(rt)
 }
 
 fn check_all(rt: &(impl AllocGlobal + Abort)) -> Result<(), ParsingError> {
@@ -308,7 +385,7 @@ fn check_all(rt: &(impl AllocGlobal + Abort)) -> Result<(), ParsingError> {
 
 #[test]
 fn ample_memory_gives_right_answers(rt: HostRuntime) {
-    assert_eq!(rt; check_all(&rt), Ok(()));
+    check_same(&rt, check_all(&rt), Ok(()));
 }
 
 #[test]

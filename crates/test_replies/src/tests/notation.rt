@@ -1,5 +1,6 @@
 //! Texts in the notation that hold a tab or a line feed, the text of the error that memory ran out, and
 //! equality of refusals. The program `test_cases` has the texts of one line.
+use crate::tests::check_same;
 use std::test::Fail;
 use test_notation::laws::equal_notation_errors;
 use test_notation::{NotationError, read_value};
@@ -7,11 +8,12 @@ use test_notation::{NotationError, read_value};
 #[test]
 fn tabs_are_blanks(rt: HostRuntime) -> Result<(), Fail> {
     let set = read_value(rt.alloc(), "\tSet [ ] ")?;
-    assert_eq!(rt; format!(in rt.alloc(); "{set:?}")?.as_str(), "Set([])");
+    check_same(&rt, format!(in rt.alloc(); "{set:?}")?.as_str(), "Set([])");
     let two = read_value(rt.alloc(), " \t+2 ")?;
-    assert_eq!(rt;
+    check_same(
+        &rt,
         format!(in rt.alloc(); "{two:?}")?.as_str(),
-        "BulkString([43, 50])"
+        "BulkString([43, 50])",
     );
     Ok(())
 }
@@ -25,9 +27,10 @@ fn a_line_feed_is_no_blank(rt: HostRuntime) {
 #[test]
 fn that_memory_ran_out_is_printed(rt: HostRuntime) -> Result<(), Fail> {
     let error = NotationError::Memory;
-    assert_eq!(rt;
+    check_same(
+        &rt,
         format!(in rt.alloc(); "{error}")?.as_str(),
-        "out of memory"
+        "out of memory",
     );
     Ok(())
 }

@@ -1,5 +1,6 @@
 //! Facts of refusals that no value can show: the text of the error that memory ran out, and equality of
 //! refusals, as a caller can prove it.
+use crate::tests::check_same;
 use redis_resp::{ParsingError, equal_parsing_errors};
 use std::test::Fail;
 use test_notation::PrintedForm;
@@ -9,7 +10,7 @@ fn that_memory_ran_out_is_printed(rt: HostRuntime) -> Result<(), Fail> {
     let error = ParsingError::Memory;
     let number = error.printed(rt.alloc())?;
     let text = format!(in rt.alloc(); "{number} {error:?}: {error}")?;
-    assert_eq!(rt; text.as_str(), "refused 18 Memory: out of memory");
+    check_same(&rt, text.as_str(), "refused 18 Memory: out of memory");
     Ok(())
 }
 

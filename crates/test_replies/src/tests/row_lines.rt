@@ -1,3 +1,4 @@
+use crate::tests::check_same;
 use std::alloc::{AllocError, Global};
 use std::io::{self, ErrorKind, Write};
 use std::process::Abort;
@@ -30,8 +31,8 @@ fn check_lines(
 ) -> Result<(), Fail> {
     let rows = rows_of(rt.alloc(), texts)?;
     let mut written = Vec::new(rt.alloc());
-    assert_eq!(rt; print_rows(&rows, &mut written), Ok(all_same));
-    assert_eq!(rt; written.as_slice(), lines.as_bytes());
+    check_same(rt, print_rows(&rows, &mut written), Ok(all_same));
+    check_same(rt, written.as_slice(), lines.as_bytes());
     Ok(())
 }
 
@@ -77,7 +78,7 @@ impl Write for Bounded {
 #[test]
 fn a_writer_that_fails_is_told(rt: HostRuntime) -> Result<(), Fail> {
     let rows = rows_of(rt.alloc(), &[("a", "a")])?;
-    assert_eq!(rt; print_rows(&rows, &mut Closed), Err(PrintError::Write));
+    check_same(&rt, print_rows(&rows, &mut Closed), Err(PrintError::Write));
     for room in 0..6 {
         assert_eq!(rt;
             print_rows(&rows, &mut Bounded(room)),
@@ -85,6 +86,6 @@ fn a_writer_that_fails_is_told(rt: HostRuntime) -> Result<(), Fail> {
             "room {room}"
         );
     }
-    assert_eq!(rt; print_rows(&rows, &mut Bounded(6)), Ok(true));
+    check_same(&rt, print_rows(&rows, &mut Bounded(6)), Ok(true));
     Ok(())
 }

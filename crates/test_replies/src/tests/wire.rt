@@ -1,4 +1,5 @@
 //! The codec's guarantees on memory and on time.
+use crate::tests::check_same;
 use redis_wire::{Fault, Limits, Reply, ReplyStream, WireError, append_command};
 use std::alloc::{AllocError, Global};
 use std::test::Fail;
@@ -81,11 +82,11 @@ fn a_stream_holds_no_more_than_its_limit(rt: HostRuntime) -> Result<(), Fail> {
             count = count.wrapping_add(1);
         }
     }
-    assert_eq!(rt; count, 40);
+    check_same(&rt, count, 40);
     assert!(rt; stream.is_empty());
     stream.feed(b"$60\r\n0123456789")?;
     assert!(rt; stream.next(rt.alloc())?.is_none());
-    assert_eq!(rt; stream.held(), 15);
+    check_same(&rt, stream.held(), 15);
     let overfull = stream.feed(&[b'0'; 60]);
     assert!(rt; overfull == Err(WireError::Fault(Fault::Overfull)));
     Ok(())
@@ -95,7 +96,7 @@ fn a_stream_holds_no_more_than_its_limit(rt: HostRuntime) -> Result<(), Fail> {
 fn commands_with_refused_memory(rt: HostRuntime) {
     let mut pipeline = Vec::new(rt.alloc());
     match append_command(rt.alloc(), &mut pipeline, &("PING", 5u64)) {
-        Ok(()) => assert_eq!(rt; pipeline.as_slice(), PING),
+        Ok(()) => check_same(&rt, pipeline.as_slice(), PING),
         Err(_) => assert!(rt; pipeline.is_empty()),
     }
 }

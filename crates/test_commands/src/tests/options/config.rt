@@ -1,5 +1,5 @@
 //! Config options in and outside their ranges.
-use crate::tests::check;
+use crate::tests::{check, check_same};
 use std::process::Abort;
 use stream_options::{
     ConfigError, IDMP_DURATION_MAX, IDMP_DURATION_MIN, IDMP_MAXSIZE_MAX, IDMP_MAXSIZE_MIN,
@@ -14,7 +14,7 @@ fn check_answer(rt: &(impl AllocGlobal + Abort), answer: ConfigAnswer, wanted: &
         Ok(options) => check(rt, &options, wanted),
         Err(error) => {
             let text = error.to_string(rt.alloc()).expect(rt, "memory");
-            assert_eq!(rt; text.as_str(), wanted);
+            check_same(rt, text.as_str(), wanted);
         }
     }
 }
@@ -49,6 +49,6 @@ fn numbers_out_of_range(rt: HostRuntime) {
     let much = "IDMP-MAXSIZE must be between 1 and 10000 entries, got: 10001";
     let maxsize = StreamConfigOptions::with_idempotency_maxsize(10001);
     check_answer(&rt, maxsize, much);
-    assert_eq!(rt; (IDMP_DURATION_MIN, IDMP_DURATION_MAX), (1, 86400));
-    assert_eq!(rt; (IDMP_MAXSIZE_MIN, IDMP_MAXSIZE_MAX), (1, 10000));
+    check_same(&rt, (IDMP_DURATION_MIN, IDMP_DURATION_MAX), (1, 86400));
+    check_same(&rt, (IDMP_MAXSIZE_MIN, IDMP_MAXSIZE_MAX), (1, 10000));
 }

@@ -1,6 +1,7 @@
 //! Lines, and readers and writers that fail.
 ghost use Rattle.std.specs.Prelude.{◌≡◌, IfOk};
 
+use crate::tests::check_same;
 use crate::tests::sentences::rows::ROWS;
 use std::alloc::{AllocError, Global};
 use std::io::{self, ErrorKind, Read, Write};
@@ -142,15 +143,15 @@ fn check_lines(
         size,
         reads: usize::MAX,
     };
-    assert_eq!(rt; answer_on(rt.alloc(), &mut input, &mut page), Ok(()));
-    assert_eq!(rt; page.written.as_slice(), answer.as_bytes());
+    check_same(rt, answer_on(rt.alloc(), &mut input, &mut page), Ok(()));
+    check_same(rt, page.written.as_slice(), answer.as_bytes());
 }
 
 /// Checks that this line, which ends with the input, has this output.
 fn check_line(rt: &(impl AllocGlobal + Abort), line: &str, wanted: &str) {
     let mut page = page_of(rt.alloc(), 128, Full::Fails).expect(rt, "memory");
     let mut input = chunks_of(line);
-    assert_eq!(rt; answer_on(rt.alloc(), &mut input, &mut page), Ok(()));
+    check_same(rt, answer_on(rt.alloc(), &mut input, &mut page), Ok(()));
     let answer = page.written.strip_suffix(b"\n");
     assert!(rt; answer == Some(wanted.as_bytes()), "of {line}");
 }
@@ -185,7 +186,7 @@ fn check_failing_read(rt: &(impl AllocGlobal + Abort), reads: usize) {
     let mut input = chunks_of(LINES);
     input.reads = reads;
     let answer = answer_on(rt.alloc(), &mut input, &mut page);
-    assert_eq!(rt; answer, Err(RunError::Read));
+    check_same(rt, answer, Err(RunError::Read));
     assert!(rt; page.written.is_empty(), "after {reads} reads");
 }
 
@@ -227,9 +228,9 @@ fn refused_memory_writes_nothing(rt: HostRuntime) {
         return;
     };
     match answer_on(rt.alloc(), &mut chunks_of(LINES), &mut page) {
-        Ok(()) => assert_eq!(rt; page.written.as_slice(), ANSWER.as_bytes()),
+        Ok(()) => check_same(&rt, page.written.as_slice(), ANSWER.as_bytes()),
         Err(error) => {
-            assert_eq!(rt; error, RunError::Memory);
+            check_same(&rt, error, RunError::Memory);
             assert!(rt; page.written.is_empty());
         }
     }

@@ -63,29 +63,54 @@ pub fn full_vectors(alloc: Global) -> Result<[OptionsVector<StreamAddOptions>; 3
     ensures { IfOk result (λ vectors. map (λ v. v.0.now) vectors
         ≡ codes "v17" ∷ codes "v18" ∷ codes "v19" ∷ []) }
 {
-    let about = StreamTrimStrategy::maxlen(StreamTrimmingMode::Approx, 100);
-    let manual = produced(alloc, StreamAddOptions::default().nomkstream().trim(about))?;
-    let from = String::from_str(alloc, "123456-0")?;
-    let automatic = StreamAddOptions::default()
-        .nomkstream()
-        .trim(StreamTrimStrategy::minid(StreamTrimmingMode::Exact, from))
-        .idmpauto(String::from_str(alloc, "producer-2")?);
-    let twice = StreamAddOptions::default()
-        .idmp(String::from_str(alloc, "a")?, String::from_str(alloc, "b")?)
-        .idmpauto(String::from_str(alloc, "NOMKSTREAM")?);
+    let manual = all_by_hand(alloc)?;
+    let automatic = all_automatic(alloc)?;
+    let twice = set_twice(alloc)?;
     Ok([
         (
             "v17",
-            manual.set_deletion_policy(StreamDeletionPolicy::KeepRef),
+            manual,
             "NOMKSTREAM KEEPREF IDMP producer-1 iid-1 MAXLEN ~ 100",
         ),
         (
             "v18",
-            automatic.set_deletion_policy(StreamDeletionPolicy::DelRef),
+            automatic,
             "NOMKSTREAM DELREF IDMPAUTO producer-2 MINID = 123456-0",
         ),
         ("v19", twice, "IDMPAUTO NOMKSTREAM"),
     ])
+}
+
+/// All settings, with both ids of an entry that is added once.
+fn all_by_hand(alloc: Global) -> Result<StreamAddOptions, AllocError> {
+    let about = StreamTrimStrategy::maxlen(StreamTrimmingMode::Approx, 100);
+    let options = produced(alloc, StreamAddOptions::default().nomkstream().trim(about))?;
+    Ok(options.set_deletion_policy(StreamDeletionPolicy::KeepRef))
+}
+
+/// All settings, with the id of a producer alone.
+fn all_automatic(alloc: Global) -> Result<StreamAddOptions, AllocError> {
+    let from = String::from_str(alloc, "123456-0")?;
+    let producer_id = String::from_str(alloc, "producer-2")?;
+    Ok(
+        StreamAddOptions::default()
+            .nomkstream()
+            .trim(StreamTrimStrategy::minid(StreamTrimmingMode::Exact, from))
+            .idmpauto(producer_id)
+            .set_deletion_policy(StreamDeletionPolicy::DelRef),
+    )
+}
+
+/// One setting that is set twice.
+fn set_twice(alloc: Global) -> Result<StreamAddOptions, AllocError> {
+    let producer_id = String::from_str(alloc, "a")?;
+    let idempotent_id = String::from_str(alloc, "b")?;
+    let last = String::from_str(alloc, "NOMKSTREAM")?;
+    Ok(
+        StreamAddOptions::default()
+            .idmp(producer_id, idempotent_id)
+            .idmpauto(last),
+    )
 }
 
 /// Add options whose texts spell keywords, v66.

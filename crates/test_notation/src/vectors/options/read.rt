@@ -11,22 +11,30 @@ pub fn read_vectors(alloc: Global) -> Result<[OptionsVector<StreamReadOptions>; 
         ≡ codes "v32" ∷ codes "v33" ∷ codes "v34" ∷ []) }
 {
     let alone = StreamReadOptions::default().noack().claim(100);
-    let grouped = StreamReadOptions::default()
-        .claim(100)
-        .noack()
-        .count(2)
-        .block(5)
-        .group(alloc, "g", "c")?;
-    let nothing: Vec<&str> = Vec::new(alloc);
-    let somebody = vec![in alloc; "c", "BLOCK"]?;
-    let unnamed = StreamReadOptions::default()
-        .group(alloc, nothing, somebody)?
-        .count(2);
+    let grouped = for_consumer(alloc)?;
+    let unnamed = for_two_words(alloc)?.count(2);
     Ok([
         ("v32", alone, "-"),
         ("v33", grouped, "GROUP g c BLOCK 5 COUNT 2 NOACK CLAIM 100"),
         ("v34", unnamed, "GROUP c BLOCK COUNT 2"),
     ])
+}
+
+/// All settings, for the consumer `c` of the group `g`.
+fn for_consumer(alloc: Global) -> Result<StreamReadOptions, AllocError> {
+    StreamReadOptions::default()
+        .claim(100)
+        .noack()
+        .count(2)
+        .block(5)
+        .group(alloc, "g", "c")
+}
+
+/// The words of a consumer, and none of a group.
+fn for_two_words(alloc: Global) -> Result<StreamReadOptions, AllocError> {
+    let nothing: Vec<&str> = Vec::new(alloc);
+    let somebody = vec![in alloc; "c", "BLOCK"]?;
+    StreamReadOptions::default().group(alloc, nothing, somebody)
 }
 
 /// Nack options, v35.
@@ -42,18 +50,24 @@ pub fn names_vectors(alloc: Global) -> Result<[OptionsVector<StreamReadOptions>;
     ensures { IfOk result (λ vectors. map (λ v. v.0.now) vectors
         ≡ codes "v68" ∷ codes "v69" ∷ []) }
 {
+    let unnamed = for_nobody(alloc)?;
+    let named = for_two_groups(alloc)?;
+    Ok([
+        ("v68", unnamed.noack(), "GROUP NOACK"),
+        ("v69", named.claim(1), "GROUP g h c CLAIM 1"),
+    ])
+}
+
+/// No word of a group, and none of a consumer.
+fn for_nobody(alloc: Global) -> Result<StreamReadOptions, AllocError> {
     let nothing: Vec<&str> = Vec::new(alloc);
     let nobody: Vec<&str> = Vec::new(alloc);
-    let unnamed = StreamReadOptions::default()
-        .group(alloc, nothing, nobody)?
-        .noack();
+    StreamReadOptions::default().group(alloc, nothing, nobody)
+}
+
+/// Two words of a group.
+fn for_two_groups(alloc: Global) -> Result<StreamReadOptions, AllocError> {
     let groups = vec![in alloc; "g", "h"]?;
     let consumers = vec![in alloc; "c"]?;
-    let named = StreamReadOptions::default()
-        .group(alloc, groups, consumers)?
-        .claim(1);
-    Ok([
-        ("v68", unnamed, "GROUP NOACK"),
-        ("v69", named, "GROUP g h c CLAIM 1"),
-    ])
+    StreamReadOptions::default().group(alloc, groups, consumers)
 }

@@ -10,15 +10,9 @@ pub fn trim_vectors(alloc: Global) -> Result<[OptionsVector<StreamTrimOptions>; 
     ensures { IfOk result (λ vectors. map (λ v. v.0.now) vectors
         ≡ codes "v01" ∷ codes "v02" ∷ codes "v03" ∷ codes "v04" ∷ codes "v05" ∷ codes "v06" ∷ []) }
 {
+    let id = String::from_str(alloc, "123456-7")?;
+    let keyword = String::from_str(alloc, "LIMIT")?;
     let about_ten = StreamTrimOptions::maxlen(StreamTrimmingMode::Approx, 10);
-    let from_id = StreamTrimOptions::minid(
-        StreamTrimmingMode::Exact,
-        String::from_str(alloc, "123456-7")?,
-    );
-    let from_keyword = StreamTrimOptions::minid(
-        StreamTrimmingMode::Exact,
-        String::from_str(alloc, "LIMIT")?,
-    );
     Ok([
         (
             "v01",
@@ -31,7 +25,11 @@ pub fn trim_vectors(alloc: Global) -> Result<[OptionsVector<StreamTrimOptions>; 
             StreamTrimOptions::maxlen(StreamTrimmingMode::Exact, 10),
             "MAXLEN = 10",
         ),
-        ("v04", from_id.limit(5), "MINID = 123456-7 LIMIT 5"),
+        (
+            "v04",
+            StreamTrimOptions::minid(StreamTrimmingMode::Exact, id).limit(5),
+            "MINID = 123456-7 LIMIT 5",
+        ),
         (
             "v05",
             StreamTrimOptions::maxlen(StreamTrimmingMode::Approx, 10)
@@ -41,7 +39,9 @@ pub fn trim_vectors(alloc: Global) -> Result<[OptionsVector<StreamTrimOptions>; 
         ),
         (
             "v06",
-            from_keyword.set_deletion_policy(StreamDeletionPolicy::Acked),
+            StreamTrimOptions::minid(StreamTrimmingMode::Exact, keyword).set_deletion_policy(
+                StreamDeletionPolicy::Acked,
+            ),
             "MINID = LIMIT ACKED",
         ),
     ])

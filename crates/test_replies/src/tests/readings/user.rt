@@ -5,6 +5,7 @@ ghost use Rattle.redis_resp.specs.Value.{tree};
 ghost use Rattle.redis_resp.specs.declared.value.error.ParsingError.TheVariants.{NotText};
 ghost use Rattle.test_replies.specs.Flag.{flag_in, flag_reading, flag_word};
 
+use crate::tests::check_same;
 use crate::tests::readings::check_value;
 use indexmap::IndexMap;
 use redis_resp::{
@@ -155,8 +156,8 @@ fn check_flags(rt: &(impl AllocGlobal + Abort), entry: &StreamId) -> Result<(), 
 
 /// Checks the fields of the same entry, read as other types.
 fn check_others(rt: &(impl AllocGlobal + Abort), entry: &StreamId) -> Result<(), Fail> {
-    assert_eq!(rt; entry.get::<u16>(rt.alloc(), "n")?, Some(7));
-    assert_eq!(rt; entry.get::<u16>(rt.alloc(), "h")?, None);
+    check_same(rt, entry.get::<u16>(rt.alloc(), "n")?, Some(7));
+    check_same(rt, entry.get::<u16>(rt.alloc(), "h")?, None);
     assert!(rt; entry.get::<Vec<Value>>(rt.alloc(), "n")?.is_none());
     let none = entry.get::<Option<String>>(rt.alloc(), "e")?;
     assert!(rt; matches!(none, Some(None)));
@@ -168,7 +169,7 @@ fn fields_are_read_as_flags(rt: HostRuntime) -> Result<(), Fail> {
     let notation = "Array[Array[1-0, Array[f, yes, g, on, n, 7, e, Nil]]]";
     let value = read_value(rt.alloc(), notation)?;
     let range = from_redis_value::<StreamRangeReply>(rt.alloc(), value)?;
-    assert_eq!(rt; range.ids.len(), 1);
+    check_same(&rt, range.ids.len(), 1);
     for entry in &range.ids {
         check_flags(&rt, entry)?;
         check_others(&rt, entry)?;
@@ -184,8 +185,8 @@ fn check_written<T: ToRedisArgs>(
 ) -> Result<(), Fail> {
     let args = value.to_redis_args(rt.alloc())?;
     let mut place: FixedArgs<4, 16> = FixedArgs::new();
-    assert_eq!(rt; value.write_redis_args(&mut place), Ok(()));
-    assert_eq!(rt; (args.len(), place.len()), (words.len(), words.len()));
+    check_same(rt, value.write_redis_args(&mut place), Ok(()));
+    check_same(rt, (args.len(), place.len()), (words.len(), words.len()));
     for (index, word) in words.iter().enumerate() {
         assert!(rt; place.get(index) == Some(word.as_bytes()), "{word}");
         assert!(rt;
