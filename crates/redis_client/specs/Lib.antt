@@ -7,5 +7,6 @@ pub mod Said
 pub mod Greeting
 pub mod Backoff
 pub mod Next
+pub mod Timed
 pub mod Cluster
 pub mod Topology

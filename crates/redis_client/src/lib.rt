@@ -20,4 +20,4 @@ pub use greeting::greet;
 pub use next::{
     Next, next_after_answer, next_after_code, next_after_connection, next_after_server,
 };
-pub use socket::connection_over;
+pub use socket::{TimedStream, connection_over};

@@ -153,6 +153,10 @@ is_cluster kind =
     else if bytes_eq kind (codes "shards") then true
     else false
 
+-- the kind of the module `sockets`
+abbrev pub is_socket : List ℕ → Bool
+is_socket kind = if bytes_eq kind (codes "socket") then true else false
+
 -- the kind of the module `callers`
 abbrev pub is_caller : List ℕ → Bool
 is_caller kind = if bytes_eq kind (codes "caller") then true else false

@@ -9,7 +9,8 @@
 //! u8       256                                 refused 2 NotNumber: not a number of this type
 //! ```
 //!
-//! The kinds are those of the modules `replies`, `readings`, `notation`, `wire`, `refs`, `cluster` and `callers`.
+//! The kinds are those of the modules `replies`, `readings`, `notation`, `wire`, `refs`, `cluster`, `sockets` and
+//! `callers`.
 //! Another implementation can be compared line by line.
 //!
 //! It exits with 0, or with 2 if memory ran out, a line of `callers` is not a case, or standard input or output failed.
@@ -25,6 +26,7 @@ mod plain_line;
 mod readings;
 mod refs;
 mod replies;
+mod sockets;
 mod wire;
 
 use anyhow::Result;
@@ -92,6 +94,9 @@ fn outcome(alloc: Global, kind: &str, input: &str) -> Result<String> {
         return Ok(text);
     }
     if let Some(text) = cluster::outcome(alloc, kind, input)? {
+        return Ok(text);
+    }
+    if let Some(text) = sockets::outcome(alloc, kind, input)? {
         return Ok(text);
     }
     match callers::outcome(alloc, kind, input)? {
