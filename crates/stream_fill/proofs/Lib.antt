@@ -1,4 +1,6 @@
 pub mod BaseLemmas
+pub mod DrainedLemmas
+pub mod JsonLemmas
 pub mod KeepLemmas
 pub mod LinesLemmas
 pub mod ProgramLemmas

@@ -1,13 +1,13 @@
 -- The records of lines, and the places that a file of lines stores.
 use Rattle.std.proofs.Common.{◌≡◌, ◌⊎◌, ◌+◌, ◌-◌, inl, inr, min, ℕ, zero, suc, List, [], ◌∷◌, ◌++◌, All, length, map}
-use Rattle.std.proofs.Common.{take, drop, slice_get, Option, Some, None, IfSome, refl, sym, ◌∙◌, ap, subst, arith}
+use Rattle.std.proofs.Common.{take, drop, slice_get, Option, Some, None, IfSome, unwrap_or, refl, sym, ◌∙◌, ap, subst, arith}
 use Rattle.std.proofs.lemmas.Bool.{cases_lt}
 use Rattle.std.proofs.lemmas.List.{drop-map, length-drop, take-map, take_all}
 use Rattle.std.proofs.lemmas.List.Elements.{All-append}
 use Rattle.std.specs.Option.{ForSome}
 use Rattle.worker_journal.specs.LastLines.{lines_of}
 use Rattle.worker_producer.specs.Records.{Fields, fields_of}
-use Rattle.stream_fill.specs.Taken.{AreRecordsOf, IsRecordOf, Record, records_of}
+use Rattle.stream_fill.specs.Taken.{AreRecordsOf, IsRecordOf, Record, fields_in, records_of}
 use Rattle.stream_fill.specs.declared.lines.Form.{Form}
 use Rattle.stream_fill.specs.declared.lines.Form.TheVariants as forms
 
@@ -68,23 +68,24 @@ part_left lines count behind most left c l =
 
 -- ---- records as a source tells them
 
-told : (form : Form) (name : List ℕ) → ((line : List ℕ) (r : Record) → IsRecordOf form line r → fields_of r ≡ (name, line) ∷ [])
-    → (ls : List (List ℕ)) (rs : List Record) → AreRecordsOf form ls rs
-    → map fields_of rs ≡ map (λ line. (name, line) ∷ []) ls
-told form name each [] [] are = refl
-told form name each [] (r ∷ rs) are = absurd are
-told form name each (l ∷ ls) [] are = absurd are
-told form name each (l ∷ ls) (r ∷ rs) are =
-    ap (λ (f : Fields). f ∷ map fields_of rs) (each l r are.0)
-    ∙ ap (λ (fs : List Fields). ((name, l) ∷ []) ∷ fs) (told form name each ls rs are.1)
+told_one : (form : Form) (line : List ℕ) (r : Record) → IsRecordOf form line r → fields_of r ≡ fields_in form line
+told_one forms.Json line r is = sym (ap (λ (o : Option Fields). unwrap_or o []) is)
+told_one (forms.Text name) line r is = is
+
+told : (form : Form) (ls : List (List ℕ)) (rs : List Record) → AreRecordsOf form ls rs
+    → map fields_of rs ≡ map (fields_in form) ls
+told form [] [] are = refl
+told form [] (r ∷ rs) are = absurd are
+told form (l ∷ ls) [] are = absurd are
+told form (l ∷ ls) (r ∷ rs) are =
+    ap (λ (f : Fields). f ∷ map fields_of rs) (told_one form l r are.0)
+    ∙ ap (λ (fs : List Fields). fields_in form l ∷ fs) (told form ls rs are.1)
 
 pub read_as : (form : Form) (known : Option (List ℕ)) (behind most : ℕ) (rs : List Record)
     → ForSome known (λ all. AreRecordsOf form (take most (drop behind (lines_of all))) rs)
     → IfSome (records_of form known) (λ all. map fields_of rs ≡ take most (drop behind all))
-read_as forms.Json known behind most rs read = tt
-read_as (forms.Text name) None behind most rs read = tt
-read_as (forms.Text name) (Some bytes) behind most rs read =
-    let record_of_line : List ℕ → Fields = λ line. (name.items, line) ∷ [] in
+read_as form None behind most rs read = tt
+read_as form (Some bytes) behind most rs read =
     let lines = lines_of bytes in
-    told (forms.Text name) name.items (λ line r is. is) (take most (drop behind lines)) rs (read bytes refl)
-    ∙ sym (ap (take most) (drop-map record_of_line behind lines) ∙ take-map record_of_line most (drop behind lines))
+    told form (take most (drop behind lines)) rs (read bytes refl)
+    ∙ sym (ap (take most) (drop-map (fields_in form) behind lines) ∙ take-map (fields_in form) most (drop behind lines))

@@ -3,5 +3,7 @@ pub mod Options
 pub mod Base
 pub mod Filled
 pub mod Placed
+pub mod JsonRecord
+pub mod Drained
 pub mod Taken
 pub mod Program

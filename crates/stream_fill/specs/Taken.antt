@@ -1,8 +1,9 @@
 -- The records of lines.
-use Rattle.std.specs.Prelude.{◌≡◌, ◌≢◌, ℕ, List, [], ◌∷◌, map, Option, None, option_map, Vec}
+use Rattle.std.specs.Prelude.{◌≡◌, ℕ, List, [], ◌∷◌, map, Option, Some, option_map, unwrap_or, Vec}
 use Rattle.std.specs.declared.alloc.Global.{Global}
 use Rattle.worker_journal.specs.LastLines.{lines_of}
 use Rattle.worker_producer.specs.Records.{Fields, fields_of}
+use Rattle.stream_fill.specs.JsonRecord.{record_of_line}
 use Rattle.stream_fill.specs.declared.lines.Form.{Form}
 use Rattle.stream_fill.specs.declared.lines.Form.TheVariants as forms
 
@@ -10,9 +11,9 @@ use Rattle.stream_fill.specs.declared.lines.Form.TheVariants as forms
 abbrev pub Record : Type 0
 Record = Vec (Vec ℕ Global × Vec ℕ Global) Global
 
--- the record of a line: a text gives one field. The fields of a JSON line are not stated
+-- the record of a line: that of its JSON, or a text gives one field
 abbrev pub IsRecordOf : Form → List ℕ → Record → Type 0
-IsRecordOf forms.Json line r = r.items ≢ []
+IsRecordOf forms.Json line r = record_of_line line ≡ Some (fields_of r)
 IsRecordOf (forms.Text name) line r = fields_of r ≡ (name.items, line) ∷ []
 
 -- the same of each of these and its line
@@ -22,7 +23,11 @@ AreRecordsOf form [] (r ∷ rs) = ⊥
 AreRecordsOf form (l ∷ ls) [] = ⊥
 AreRecordsOf form (l ∷ ls) (r ∷ rs) = IsRecordOf form l r × AreRecordsOf form ls rs
 
--- all records of a file with these bytes: one of each whole line. Those of JSON are not stated
+-- the fields of a line's record. A line of JSON that has no record has none, and is never read as one
+abbrev pub fields_in : Form → List ℕ → Fields
+fields_in forms.Json line = unwrap_or (record_of_line line) []
+fields_in (forms.Text name) line = (name.items, line) ∷ []
+
+-- all records of a file with these bytes: one of each whole line
 abbrev pub records_of : Form → Option (List ℕ) → Option (List Fields)
-records_of forms.Json known = None
-records_of (forms.Text name) known = option_map (λ bytes. map (λ line. (name.items, line) ∷ []) (lines_of bytes)) known
+records_of form known = option_map (λ bytes. map (fields_in form) (lines_of bytes)) known

@@ -26,6 +26,7 @@ ghost use Rattle.worker_producer.specs.Confirmed.{FinishedConfirmed};
 mod byte_file;
 mod json_records;
 mod kept_base;
+mod laws;
 mod line_reader;
 mod lines;
 mod onto;
