@@ -1,0 +1,5 @@
+mod CommandLemmas
+mod OutputLemmas
+mod ServedLemmas
+mod WholeLemmas
+mod WordsLemmas

@@ -1,0 +1,3 @@
+-- What the program's contracts speak of.
+pub mod Served
+pub mod Words
