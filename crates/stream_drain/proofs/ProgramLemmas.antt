@@ -7,15 +7,25 @@ use Rattle.model_workers.specs.Loops.Loop.{Drains, Loops, Stops}
 use Rattle.redis_connection.specs.Link.{Link}
 use Rattle.redis_connection.specs.declared.wait.Wait.{Wait}
 use Rattle.worker.specs.Session.{Standing}
+use Rattle.worker.specs.declared.dead_letters.search.DeadLetterSearch.{DeadLetterSearch}
+use Rattle.worker.specs.declared.state.Asked.{Asked}
 use Rattle.worker.specs.declared.state.Settings.{Settings}
 use Rattle.stream_drain.specs.Lived.{Leads}
 use Rattle.stream_drain.specs.Options.{AreOptionsOf}
-use Rattle.stream_drain.specs.Program.{BeginsFile, EndsAsSaid, EndsBy, EndsSo, IsRun, RunsAsSaid, RunsBy, StartsIn, settings_with}
+use Rattle.stream_drain.specs.Program.{BeginsFile, EndsAsSaid, EndsBy, EndsSo, IsRun, RunsAsSaid, RunsBy, SearchesAfter, StartsIn, settings_with}
 use Rattle.command_lines.specs.Words.{Text}
 use Rattle.stream_drain.specs.declared.options.Options.{Options}
 use Rattle.stream_drain.specs.Turn.{EachIsConfirmed}
 use Rattle.stream_drain.specs.Written.{Written}
 use Rattle.stream_drain.proofs.FiledLemmas.{with_loops, with_stops}
+
+-- a search that is due, if any, and then rounds
+pub searched_first : (settings : Settings) (dead : Option DeadLetterSearch) (asked : Asked) (l m n : Link)
+    (w x : Standing Written) → IfSome dead (λ d. d.waits ≡ false → SearchesAfter d asked l m)
+    → Leads (Loops settings) m n w x
+    → IfSome dead (λ d. d.waits ≡ false → (k : Link) × SearchesAfter d asked l k × Leads (Loops settings) k n w x)
+searched_first settings None asked l m n w x searched leads = searched
+searched_first settings (Some d) asked l m n w x searched leads = λ waits. (m, searched waits, leads)
 
 module _ {A E : Type 0} (r : Result A E) (settings : Settings) (wait : Option Wait) (old new : Link)
     (w x : Standing Written) where

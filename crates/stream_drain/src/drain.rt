@@ -1,5 +1,6 @@
 //! The loop of the program: it sends commands and takes the replies.
 ghost use Rattle.std.specs.Prelude.{◌≡◌, ◌≤◌, IfErr, IfOk, IfSome, IsTrue, OnErr, OnOk, false, option_map};
+ghost use Rattle.redis_connection.specs.Link.{Link};
 ghost use Rattle.worker.specs.Confirm.Confirmed.{IsConfirmedRound};
 ghost use Rattle.worker.specs.DeadLetters.Besides.{Besides, BreaksBesides, LooksNot};
 ghost use Rattle.worker.specs.DeadLetters.Dead.{searcher_of};
@@ -79,6 +80,7 @@ pub fn drain<R: Read + Drop, W: Write + Drop, D: LogFile + Drop, T: Clock + Epri
         (standing_of worker.old (⟦<Lines<D> as Handler>⟧.history lines.old))
         (standing_of worker.new (⟦<Lines<D> as Handler>⟧.history lines.new))
         (D.may_leave lines.new.log.file) }
+    ensures same_search { option_map searcher_of dead.new ≡ option_map searcher_of dead.old }
 {
     let mut asked = Asked::Nothing;
     for _turn in 0..u64::MAX {
@@ -115,6 +117,12 @@ fn turn<R: Read + Drop, W: Write + Drop, D: LogFile + Drop, T: Clock + Eprint + 
         connection.old connection.new
         (standing_of worker.old (⟦<Lines<D> as Handler>⟧.history lines.old))
         (standing_of worker.new (⟦<Lines<D> as Handler>⟧.history lines.new)) turn.asked)) }
+    ensures same_search { option_map searcher_of dead.new ≡ option_map searcher_of dead.old }
+    ensures searches { OnOk result (lines.old.done ≤ lines.old.committed → IfSome dead.old (λ d. d.waits ≡ false
+        → (m : Link) × SearchesAfter d asked connection.old m
+        × Leads (Loops worker.old.settings) m connection.new
+        (standing_of worker.old (⟦<Lines<D> as Handler>⟧.history lines.old))
+        (standing_of worker.new (⟦<Lines<D> as Handler>⟧.history lines.new)))) }
 {
     let before = lines.seen;
     look(rt.alloc(), connection, lines, dead, asked)?;

@@ -1,9 +1,10 @@
 -- A run of the program, by its outcome.
-use Rattle.std.proofs.Common.{◌≡◌, ◌⊎◌, Bool, Err, IfErr, IfOk, IsTrue, List, Ok, OnErr, OnOk, Option, Result, inl, inr, refl, subst, sym, ℕ}
+use Rattle.std.proofs.Common.{◌≡◌, ◌⊎◌, Bool, Err, IfErr, IfOk, IfSome, IsTrue, List, None, Ok, OnErr, OnOk, Option, Result, Some, false, inl, inr, refl, subst, sym, ℕ}
 use Rattle.command_lines.specs.Words.{Text}
 use Rattle.redis_connection.specs.Link.{Link}
 use Rattle.model_server.specs.Group.Worker.{Machine, start}
 use Rattle.worker.specs.Session.{Standing, standing_of}
+use Rattle.worker.specs.declared.dead_letters.search.DeadLetterSearch.{DeadLetterSearch}
 use Rattle.worker.specs.declared.state.Asked.{Asked}
 use Rattle.worker.specs.declared.state.Asked.TheVariants.{Nothing}
 use Rattle.worker.specs.declared.state.GroupState.{GroupState}
@@ -13,11 +14,18 @@ use Rattle.worker.specs.declared.worker.Worker.{Worker}
 use Rattle.worker_jobs.specs.Talk.{Talk, over, talk_of}
 use Rattle.stream_run.specs.Failures.{IsOfChild}
 use Rattle.stream_run.specs.Options.{AreOptionsOf}
-use Rattle.stream_run.specs.Program.{ChildFailsAsSaid, ChildFailsBy, EndsAsSaid, EndsBy, EndsSo, IsNew, OverSo, StopsAsSaid, StopsBy, StopsSo, newborn}
+use Rattle.stream_run.specs.Program.{ChildFailsAsSaid, ChildFailsBy, EndsAsSaid, EndsBy, EndsSo, IsNew, OverSo, SearchesAfter, StopsAsSaid, StopsBy, StopsSo, newborn}
 use Rattle.stream_run.specs.Rounds.{Rounds, Stops}
 use Rattle.stream_run.specs.declared.failure.Failure.{Failure}
 use Rattle.stream_run.specs.declared.options.Options.{Options}
 use Rattle.stream_run.proofs.RoundsLemmas.{rounds_end}
+
+-- a search that is due, if any, and then rounds
+pub searched_first : (settings : Settings) (dead : Option DeadLetterSearch) (asked : Asked) (l m n : Link)
+    (w x : Standing Talk) → IfSome dead (λ d. d.waits ≡ false → SearchesAfter d asked l m) → Rounds settings m w n x
+    → IfSome dead (λ d. d.waits ≡ false → (k : Link) × SearchesAfter d asked l k × Rounds settings k w n x)
+searched_first settings None asked l m n w x searched rounds = searched
+searched_first settings (Some d) asked l m n w x searched rounds = λ waits. (m, searched waits, rounds)
 
 over_talk : (o : Bool) (stream : List ℕ) (sent coming : Option (List ℕ)) → IsTrue o → talk_of o stream sent coming ≡ over
 over_talk o stream sent coming is = subst (λ (b : Bool). talk_of b stream sent coming ≡ over) (sym is) refl

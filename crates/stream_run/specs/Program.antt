@@ -1,5 +1,5 @@
 -- A run of the program, by its options and by its words.
-use Rattle.std.specs.Prelude.{◌≡◌, ◌⊎◌, ℕ, List, Bool, true, false, Option, None, Some, IsTrue, string_bytes}
+use Rattle.std.specs.Prelude.{◌≡◌, ◌⊎◌, ℕ, List, Bool, true, false, Option, None, Some, IsTrue, max, string_bytes}
 use Rattle.command_lines.specs.Words.{Text}
 use Rattle.redis_connection.specs.Link.{Link}
 use Rattle.model_server.specs.Group.Worker.{start}
@@ -24,7 +24,7 @@ settings_with None settings = settings
 settings_with (Some to) settings = record settings { one_at_a_time = true }
 
 -- the search for dead letters: it gives up entries of this worker, from this delivery count on, and their letters go to
--- this stream
+-- this stream. It is made after as many reads as the worker makes between its claims, and after one at least
 abbrev pub searcher_by : Settings → GiveUp → Searcher
 searcher_by settings to = record {
   claimer = record {
@@ -35,12 +35,13 @@ searcher_by settings to = record {
   };
   names = (string_bytes settings.key, string_bytes settings.group, string_bytes to.stream);
   deliveries = to.deliveries;
+  every = max settings.every 1;
 }
 
 -- the search that is due after a command, over a connection
 abbrev pub SearchesAfter : DeadLetterSearch → Asked → Link → Link → Type 0
 SearchesAfter d asked old new =
-    (reads : ℕ) × IsCounted d.reads asked reads × IsSearched (searcher_of d) d.begun d.every reads old new
+    (reads : ℕ) × IsCounted d.reads asked reads × IsSearched (searcher_of d) d.begun reads old new
 
 -- the talk before the first entry: the lines are of the stream that the settings name, and this was sent and is coming
 abbrev pub first_talk : Settings → Option (List ℕ) → Option (List ℕ) → Talk

@@ -1,7 +1,8 @@
 //! The loop of the program: it sends commands and takes the replies.
-ghost use Rattle.std.specs.Prelude.{◌≡◌, ◌⊎◌, IfErr, IfOk, IfSome, IsTrue, None, OnErr, OnOk, false, option_map, string_bytes};
+ghost use Rattle.std.specs.Prelude.{◌≡◌, ◌≤◌, ◌⊎◌, IfErr, IfOk, IfSome, IsTrue, None, OnErr, OnOk, false, option_map, string_bytes};
 ghost use Rattle.worker.specs.DeadLetters.Besides.{Besides, BreaksBesides, GivesUpNow};
 ghost use Rattle.worker.specs.DeadLetters.Dead.{searcher_of};
+ghost use Rattle.redis_connection.specs.Link.{Link};
 ghost use Rattle.stream_run.specs.Failures.{IsOfChild};
 ghost use Rattle.stream_run.specs.GivenUp.{GivesUpDead, GivesUpEach, dead_of, names_of_search};
 ghost use Rattle.stream_run.specs.Program.{SearchesAfter};
@@ -68,6 +69,7 @@ pub fn drain<
         (standing_of worker.old (⟦<Jobs<C, D> as Handler>⟧.history jobs.old))
         (standing_of worker.new (⟦<Jobs<C, D> as Handler>⟧.history jobs.new))) }
     ensures child { IfErr result (λ failure. IsOfChild failure → IsTrue jobs.new.over) }
+    ensures same_search { option_map searcher_of dead.new ≡ option_map searcher_of dead.old }
 {
     let mut asked = Asked::Nothing;
     for _ in 0..u64::MAX {
@@ -111,6 +113,11 @@ fn turn<
         (standing_of worker.old (⟦<Jobs<C, D> as Handler>⟧.history jobs.old))
         (standing_of worker.new (⟦<Jobs<C, D> as Handler>⟧.history jobs.new))) }
     ensures not_child { IfErr result (λ failure. IsOfChild failure → ⊥) }
+    ensures same_search { option_map searcher_of dead.new ≡ option_map searcher_of dead.old }
+    ensures searches { OnOk result (jobs.old.done ≤ jobs.old.committed → IfSome dead.old (λ d. d.waits ≡ false
+        → (m : Link) × SearchesAfter d asked connection.old m × Rounds worker.old.settings m
+        (standing_of worker.old (⟦<Jobs<C, D> as Handler>⟧.history jobs.old)) connection.new
+        (standing_of worker.new (⟦<Jobs<C, D> as Handler>⟧.history jobs.new)))) }
 {
     let before = jobs.seen;
     look(
@@ -185,6 +192,7 @@ fn give_up_dead<R: Read + Drop, W: Write + Drop>(
     ensures ok { OnOk result (GivesUpDead (dead_of dead.old) notes.now connection.old connection.new) }
     ensures err { OnErr result (BreaksBesides connection.old connection.new) }
     ensures not_child { IfErr result (λ failure. IsOfChild failure → ⊥) }
+    ensures same_search { option_map searcher_of dead.new ≡ option_map searcher_of dead.old }
 {
     match dead {
         Some(search) => give_up_each(alloc, connection, search, notes),
@@ -202,6 +210,7 @@ fn give_up_each<R: Read + Drop, W: Write + Drop>(
     ensures ok { OnOk result (GivesUpEach (names_of_search search.old) notes.now connection.old connection.new) }
     ensures err { OnErr result (BreaksBesides connection.old connection.new) }
     ensures not_child { IfErr result (λ failure. IsOfChild failure → ⊥) }
+    ensures same_search { searcher_of search.new ≡ searcher_of search.old }
 {
     for note in notes {
         if note.dead {
@@ -223,6 +232,7 @@ fn give_up<R: Read + Drop, W: Write + Drop>(
     ensures err { OnErr result (BreaksBesides connection.old connection.new) }
     ensures names { names_of_search search.new ≡ names_of_search search.old }
     ensures not_child { IfErr result (λ failure. IsOfChild failure → ⊥) }
+    ensures same_search { searcher_of search.new ≡ searcher_of search.old }
 {
     match search.give_up_now(alloc, connection, note.id.as_str(), &note.text) {
         Ok(()) => Ok(()),

@@ -1,5 +1,5 @@
 -- A run of the program, by its options and by its words.
-use Rattle.std.specs.Prelude.{◌≡◌, [], ℕ, IsTrue, List, None, Option, Some, String, string_bytes, true}
+use Rattle.std.specs.Prelude.{◌≡◌, [], ℕ, IsTrue, List, None, Option, Some, String, max, string_bytes, true}
 use Rattle.std.specs.declared.alloc.Global.{Global}
 use Rattle.command_lines.specs.Words.{Text}
 use Rattle.redis_connection.specs.Link.{Link}
@@ -26,7 +26,7 @@ settings_with None settings = settings
 settings_with (Some to) settings = record settings { one_at_a_time = true }
 
 -- the search for dead letters: it gives up entries of this worker, from this delivery count on, and their letters go to
--- this stream
+-- this stream. It is made after as many reads as the worker makes between its claims, and after one at least
 abbrev pub searcher_by : Settings → GiveUp → Searcher
 searcher_by settings to = record {
   claimer = record {
@@ -37,12 +37,13 @@ searcher_by settings to = record {
   };
   names = (string_bytes settings.key, string_bytes settings.group, string_bytes to.stream);
   deliveries = to.deliveries;
+  every = max settings.every 1;
 }
 
 -- the search that is due after a command, over a connection
 abbrev pub SearchesAfter : DeadLetterSearch → Asked → Link → Link → Type 0
 SearchesAfter d asked old new =
-    (reads : ℕ) × IsCounted d.reads asked reads × IsSearched (searcher_of d) d.begun d.every reads old new
+    (reads : ℕ) × IsCounted d.reads asked reads × IsSearched (searcher_of d) d.begun reads old new
 
 -- a worker with these settings, whose handler began so, went this way over the connection
 pub record IsRun (settings : Settings) (way : Settings → Way) (kept : Kept) (old new : Link) : Type 0 where

@@ -1,5 +1,6 @@
 //! The loop of the program: it sends commands, and takes the replies.
-ghost use Rattle.std.specs.Prelude.{◌≡◌, IfOk, IfSome, IsTrue, OnErr, OnOk, false, option_map};
+ghost use Rattle.std.specs.Prelude.{◌≡◌, ◌≤◌, IfOk, IfSome, IsTrue, OnErr, OnOk, false, option_map};
+ghost use Rattle.redis_connection.specs.Link.{Link};
 ghost use Rattle.worker.specs.DeadLetters.Besides.{Besides, BreaksBesides};
 ghost use Rattle.worker.specs.DeadLetters.Dead.{searcher_of};
 ghost use Rattle.model_workers.specs.Loops.Loop.{Loops, Stops};
@@ -63,6 +64,7 @@ pub fn drain<R: Read + Drop, W: Write + Drop, T: Table + Drop, P: Eprint + Alloc
     ensures err { OnErr result (Leads (Stops worker.old.settings) connection.old connection.new
         (standing_of worker.old (⟦<Rows<T> as Handler>⟧.history rows.old))
         (standing_of worker.new (⟦<Rows<T> as Handler>⟧.history rows.new))) }
+    ensures same_search { option_map searcher_of dead.new ≡ option_map searcher_of dead.old }
 {
     let mut asked = Asked::Nothing;
     for _ in 0..u64::MAX {
@@ -93,6 +95,12 @@ fn turn<R: Read + Drop, W: Write + Drop, T: Table + Drop, P: Eprint + AllocGloba
     ensures err { OnErr result (Leads (Stops worker.old.settings) connection.old connection.new
         (standing_of worker.old (⟦<Rows<T> as Handler>⟧.history rows.old))
         (standing_of worker.new (⟦<Rows<T> as Handler>⟧.history rows.new))) }
+    ensures same_search { option_map searcher_of dead.new ≡ option_map searcher_of dead.old }
+    ensures searches { OnOk result (rows.old.done ≤ rows.old.committed → IfSome dead.old (λ d. d.waits ≡ false
+        → (m : Link) × SearchesAfter d asked connection.old m
+        × Leads (Loops worker.old.settings) m connection.new
+        (standing_of worker.old (⟦<Rows<T> as Handler>⟧.history rows.old))
+        (standing_of worker.new (⟦<Rows<T> as Handler>⟧.history rows.new)))) }
 {
     let left = rows.left;
     let before = rows.seen;

@@ -1,7 +1,10 @@
 //! The loop of the program that forwards entries to another stream.
-ghost use Rattle.std.specs.Prelude.{◌≡◌, IfOk, IsTrue, OnErr, OnOk};
+ghost use Rattle.std.specs.Prelude.{◌≡◌, ◌≤◌, IfOk, IfSome, IsTrue, OnErr, OnOk, false, option_map};
+ghost use Rattle.redis_connection.specs.Link.{Link};
 ghost use Rattle.model_workers.specs.Loops.Loop.{Loops, Stops};
 ghost use Rattle.stream_sqlite.specs.Forwards.{AllWent, Ends, Forwards};
+ghost use Rattle.stream_sqlite.specs.Program.{SearchesAfter};
+ghost use Rattle.worker.specs.DeadLetters.Dead.{searcher_of};
 ghost use Rattle.worker_table.specs.Lived.{Leads};
 ghost use Rattle.worker.specs.Session.{standing_of};
 
@@ -38,6 +41,7 @@ pub fn forward<R: Read + Drop, W: Write + Drop, T: WithOutbox + Drop, P: Eprint 
         (T.committed rows.old.table)
         (standing_of worker.old (⟦<Forwarding<T> as Handler>⟧.history rows.old))
         (standing_of worker.new (⟦<Forwarding<T> as Handler>⟧.history rows.new))) }
+    ensures same_search { option_map searcher_of dead.new ≡ option_map searcher_of dead.old }
 {
     let mut asked = Asked::Nothing;
     for _ in 0..u64::MAX {
@@ -72,6 +76,7 @@ fn pass<R: Read + Drop, W: Write + Drop, T: WithOutbox + Drop, P: Eprint + Alloc
         (T.committed rows.old.table)
         (standing_of worker.old (⟦<Forwarding<T> as Handler>⟧.history rows.old))
         (standing_of worker.new (⟦<Forwarding<T> as Handler>⟧.history rows.new))) }
+    ensures same_search { option_map searcher_of dead.new ≡ option_map searcher_of dead.old }
 {
     send(rt.alloc(), connection, rows)?;
     turn(rt, connection, worker, rows, counts, dead, asked)
@@ -127,6 +132,12 @@ fn turn<R: Read + Drop, W: Write + Drop, T: WithOutbox + Drop, P: Eprint + Alloc
     ensures err { OnErr result (Leads (Stops worker.old.settings) connection.old connection.new
         (standing_of worker.old (⟦<Forwarding<T> as Handler>⟧.history rows.old))
         (standing_of worker.new (⟦<Forwarding<T> as Handler>⟧.history rows.new))) }
+    ensures same_search { option_map searcher_of dead.new ≡ option_map searcher_of dead.old }
+    ensures searches { OnOk result (rows.old.done ≤ rows.old.committed → IfSome dead.old (λ d. d.waits ≡ false
+        → (m : Link) × SearchesAfter d asked connection.old m
+        × Leads (Loops worker.old.settings) m connection.new
+        (standing_of worker.old (⟦<Forwarding<T> as Handler>⟧.history rows.old))
+        (standing_of worker.new (⟦<Forwarding<T> as Handler>⟧.history rows.new)))) }
 {
     let left = rows.left;
     look(

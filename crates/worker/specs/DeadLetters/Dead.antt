@@ -1,6 +1,6 @@
 -- The search for entries that are given up, over a connection: none is acknowledged before the reply to its letter.
-use Rattle.std.specs.Prelude.{◌≡◌, ◌≢◌, ◌<◌, ◌≤◌, ◌+◌, ◌⊎◌, ℕ, zero, suc, Bool, true, false, filter, if◌then◌else◌, nat_le, List, [], ◌∷◌}
-use Rattle.std.specs.Prelude.{◌++◌, length, map, Option, None, Some}
+use Rattle.std.specs.Prelude.{◌≡◌, ◌≢◌, ◌<◌, ◌≤◌, ◌+◌, ◌-◌, ◌^◌, ◌⊎◌, ℕ, zero, suc, Bool, true, false, filter, if◌then◌else◌, nat_le}
+use Rattle.std.specs.Prelude.{List, [], ◌∷◌, ◌++◌, length, map, min, Option, None, Some}
 use Rattle.std.specs.Prelude.{option_map, codes, decimal, String, Vec, string_bytes}
 use Rattle.std.specs.declared.alloc.Global.{Global}
 use Rattle.redis_args.specs.declared.raw_bytes.RawBytes.{RawBytes}
@@ -218,15 +218,22 @@ GivesUpSome c names ws old new = (new ≡ old) ⊎ (((d : Desk) × PostsSome c n
     ⊎ ((es : List Entry) × (m : Link) × (d : Desk) × (d' : Desk) × PostsAll c names.2 ws es old none_waits m d
     × DeliversSome names m d new d'))
 
--- whose pending entries are searched, which names the letters have, and from which delivery count entries are given up
+-- whose pending entries are searched, which names the letters have, from which delivery count entries are given up, and
+-- how many reads are made between searches
 pub record Searcher : Type 0 where
   pub claimer : Claimer
   pub names : Names
   pub deliveries : ℕ
+  pub every : ℕ
 
 -- the same of a search
 abbrev pub searcher_of : DeadLetterSearch → Searcher
-searcher_of d = record { claimer = claimer_of d d.min_idle; names = letter_names d; deliveries = d.deliveries }
+searcher_of d = record {
+  claimer = claimer_of d d.min_idle;
+  names = letter_names d;
+  deliveries = d.deliveries;
+  every = d.every;
+}
 
 -- `XPENDING key group start + 100 consumer` for own entries, and for those of all consumers
 -- `XPENDING key group IDLE min-idle start + 100`
@@ -262,14 +269,35 @@ Searches s own old new = ((n : ℕ) × (start : List ℕ) × (m : Link) × Searc
 abbrev pub SearchesBoth : Searcher → Link → Link → Type 0
 SearchesBoth s old new = (m : Link) × Searches s true old m × Searches s false m new
 
--- the number of reads since the last search, after this command: one more if it read new entries
+-- the number of reads since the last search, after this command: one more if it read new entries, unless that is more
+-- than 64 bits hold
 pub record IsCounted (before : ℕ) (asked : Asked) (reads : ℕ) : Type 0 where
-  pub read : asked ≡ New → before < 18446744073709551615 → reads ≡ before + 1
+  pub read : asked ≡ New → reads ≡ min (before + 1) (2 ^ 64 - 1)
   pub other : asked ≢ New → reads ≡ before
 
 -- before the first command both are searched; later the idle entries of all consumers, once as many reads were made as
 -- the worker makes between its claims
-pub record IsSearched (s : Searcher) (begun : Bool) (every reads : ℕ) (old new : Link) : Type 0 where
+pub record IsSearched (s : Searcher) (begun : Bool) (reads : ℕ) (old new : Link) : Type 0 where
   pub first : begun ≡ false → SearchesBoth s old new
-  pub due : begun ≡ true → every ≤ reads → Searches s false old new
-  pub later : begun ≡ true → reads < every → new ≡ old
+  pub due : begun ≡ true → s.every ≤ reads → Searches s false old new
+  pub later : begun ≡ true → reads < s.every → new ≡ old
+
+-- how many of these reads count after a turn that may search: none if a search was due after them
+abbrev pub counted_after : Bool → ℕ → ℕ → ℕ
+counted_after false every reads = reads
+counted_after true every reads = if nat_le every reads then 0 else reads
+
+-- after a turn that may not search: the command is counted, and the next turn may search
+abbrev pub OnlyCounts : Asked → DeadLetterSearch → DeadLetterSearch → Type 0
+OnlyCounts asked old new =
+    (reads : ℕ) × IsCounted old.reads asked reads × (new ≡ record old { reads = reads; waits = false })
+
+-- after a turn that may search, whether that succeeded or not: the command is counted, and the reads begin anew after a
+-- search that was due
+abbrev pub CountsOn : Asked → DeadLetterSearch → DeadLetterSearch → Type 0
+CountsOn asked old new = (reads : ℕ) × IsCounted old.reads asked reads × (new ≡ record old {
+  reads = counted_after old.begun old.every reads;
+  waits = false;
+  begun = true;
+  letters = new.letters;
+})

@@ -1,6 +1,6 @@
 //! The search for entries that were delivered too often.
-ghost use Rattle.std.specs.Prelude.{◌≡◌, ◌≢◌, ◌<◌, ◌≤◌, ◌%◌, ◌+◌, ◌∷◌, [], IfErr, IfOk, IfSome, IsTrue, MatchOption, Ok, OnErr, OnOk, Some, false, true};
-ghost use Rattle.std.specs.Prelude.{ℕ, List, filter, length, map, nat_le, option_map, string_bytes};
+ghost use Rattle.std.specs.Prelude.{◌≡◌, ◌≢◌, ◌<◌, ◌≤◌, ◌%◌, ◌+◌, ◌∷◌, ◌⊎◌, [], IfErr, IfOk, IfSome, IsTrue, MatchOption, Ok, OnErr, OnOk, Some, false, true};
+ghost use Rattle.std.specs.Prelude.{ℕ, List, filter, length, map, max, nat_le, option_map, string_bytes};
 ghost use Rattle.std.specs.List.{flat_map};
 ghost use Rattle.worker.specs.Letters.{Entry};
 ghost use Rattle.redis_connection.specs.Ask.{Asks};
@@ -8,6 +8,7 @@ ghost use Rattle.worker.specs.DeadLetters.Besides.{Besides, BreaksBesides, Break
 ghost use Rattle.worker.specs.DeadLetters.Dead.{AreJust, BreaksOff, Delivers, DeliversSome, GivesUp, GivesUpPage, GivesUpSome};
 ghost use Rattle.worker.specs.DeadLetters.Dead.{Posted, PostedFields, PostsAll, PostsSome, ReadsPage, claim_words, claimer_of, own_words, page_words};
 ghost use Rattle.worker.specs.DeadLetters.Dead.{IsAllowed, IsCounted, IsNext, IsRefused, IsSearched, Searches, SearchesBoth, letter_names};
+ghost use Rattle.worker.specs.DeadLetters.Dead.{CountsOn, OnlyCounts, counted_after};
 ghost use Rattle.worker.specs.DeadLetters.Dead.{none_waits, row_of, rows_of, rows_reading, searcher_of, waiting_of};
 ghost use Rattle.worker.specs.Letters.{desk_of, names_of};
 
@@ -87,6 +88,7 @@ impl DeadLetterSearch {
             × (string_bytes d.consumer ≡ string_bytes settings.old.consumer)) }
         ensures given_up { IfOk result (λ d. (d.deliveries ≡ to.deliveries) × (d.stream ≡ to.stream)
             × (d.min_idle ≡ settings.old.min_idle)) }
+        ensures every { IfOk result (λ d. d.every ≡ max settings.old.every 1) }
         ensures begins { IfOk result (λ d. (d.waits ≡ false) × (d.begun ≡ false) × (d.reads ≡ 0) × (d.letters ≡ 0)) }
         ensures one_at_a_time { OnOk result (settings.new ≡ record settings.old { one_at_a_time = true }) }
         ensures same_settings { OnErr result (settings.new ≡ settings.old) }
@@ -106,6 +108,7 @@ impl DeadLetterSearch {
             × (string_bytes d.consumer ≡ string_bytes settings.now.consumer)) }
         ensures given_up { IfOk result (λ d. (d.deliveries ≡ to.deliveries) × (d.stream ≡ to.stream)
             × (d.min_idle ≡ settings.now.min_idle)) }
+        ensures every { IfOk result (λ d. d.every ≡ max settings.now.every 1) }
         ensures begins { IfOk result (λ d. (d.waits ≡ false) × (d.begun ≡ false) × (d.reads ≡ 0) × (d.letters ≡ 0)) }
     {
         Ok(DeadLetterSearch {
@@ -149,8 +152,7 @@ impl DeadLetterSearch {
         ensures ok { OnOk result (GivesUpNow (claimer_of self.old 0) (letter_names self.old)
             id.now reason.now connection.old connection.new) }
         ensures err { OnErr result (BreaksBesides connection.old connection.new) }
-        ensures same { claimer_of self.new 0 ≡ claimer_of self.old 0 }
-        ensures same_names { letter_names self.new ≡ letter_names self.old }
+        ensures same { self.new ≡ record self.old { letters = self.new.letters } }
     {
         let found = self.find_own(alloc, connection, id, reason)?;
         match found {
@@ -194,10 +196,12 @@ impl DeadLetterSearch {
             × (self.new.waits ≡ false) }
         ensures searches { in_hand ≡ false → self.old.waits ≡ false → OnOk result ((reads : ℕ)
             × IsCounted self.old.reads asked reads
-            × IsSearched (searcher_of self.old) self.old.begun self.old.every reads connection.old connection.new) }
+            × IsSearched (searcher_of self.old) self.old.begun reads connection.old connection.new) }
         ensures ok { OnOk result (Besides connection.old connection.new) }
         ensures err { OnErr result (BreaksBesides connection.old connection.new) }
         ensures same { searcher_of self.new ≡ searcher_of self.old }
+        ensures counts { IsTrue in_hand ⊎ IsTrue self.old.waits → OnlyCounts asked self.old self.new }
+        ensures state { in_hand ≡ false → self.old.waits ≡ false → CountsOn asked self.old self.new }
     {
         self.reads = count_reads(self.reads, asked);
         let waits = mem::replace(&mut self.waits, false);
@@ -213,10 +217,13 @@ impl DeadLetterSearch {
         alloc: Global,
         connection: &mut Connection<R, W>,
     ) -> Result<(), SearchError>
-        ensures searches { OnOk result (IsSearched (searcher_of self.old) self.old.begun self.old.every self.old.reads
+        ensures searches { OnOk result (IsSearched (searcher_of self.old) self.old.begun self.old.reads
             connection.old connection.new) }
-        ensures same { searcher_of self.new ≡ searcher_of self.old }
-        ensures begun { self.new.begun ≡ true }
+        ensures same { self.new ≡ record self.old {
+          reads = counted_after self.old.begun self.old.every self.old.reads;
+          begun = true;
+          letters = self.new.letters;
+        } }
         ensures ok { OnOk result (Besides connection.old connection.new) }
         ensures err { OnErr result (BreaksBesides connection.old connection.new) }
     {

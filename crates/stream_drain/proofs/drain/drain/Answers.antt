@@ -115,6 +115,7 @@ loop-turn-init g c =
     (g.D.LogFile.seen c.args.lines.now.log.file) c.args.lines.now.log.len in
     record {
       settings = refl;
+      same_search = refl;
       leads = leads_same c.args.worker.now.settings c.args.connection.now w;
       confirmed = no_turn c.args.wait c.args.worker.now.settings c.args.connection.now w;
     }
@@ -130,6 +131,7 @@ loop-turn-preserved g c =
     (g.D.LogFile.seen c.turn.new.lines.log.file) c.turn.new.lines.log.len in
     record {
       settings = c.turn.ensures.settings ∙ c.loop-turn.invariant.settings;
+      same_search = c.turn.ensures.same_search ∙ c.loop-turn.invariant.same_search;
       leads = leads_both settings c.args.connection.now c.loop-turn.connection c.turn.new.connection w x y
           c.loop-turn.invariant.leads
           (subst (λ (s : Settings). Leads (Loops s) c.loop-turn.connection c.turn.new.connection x y)

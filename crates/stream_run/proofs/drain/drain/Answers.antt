@@ -14,7 +14,7 @@ abbrev stands : Worker → Bool → List ℕ → Option (List ℕ) → Option (L
 stands w over stream sent coming = standing_of w (talk_of over stream sent coming)
 
 pub loop-init : goal.loop-init
-loop-init g c = record { settings = refl; rounds = ends c.args.connection.now _ }
+loop-init g c = record { settings = refl; same_search = refl; rounds = ends c.args.connection.now _ }
 
 pub returns-in_err-last-clause-err : goal.returns-in_err-last-clause-err
 returns-in_err-last-clause-err g c =
@@ -93,6 +93,7 @@ loop-preserved g c =
     (g.D.Write.contents c.turn.new.jobs.lines) (g.C.Read.remaining c.turn.new.jobs.replies) in
     record {
       settings = c.turn.ensures.settings ∙ c.loop.invariant.settings;
+      same_search = c.turn.ensures.same_search ∙ c.loop.invariant.same_search;
       rounds = rounds_both c.args.worker.now.settings c.args.connection.now c.loop.connection c.turn.new.connection _ x y
           c.loop.invariant.rounds (subst (λ (s : Settings). Rounds s c.loop.connection x c.turn.new.connection y)
           c.loop.invariant.settings c.in_ok-last.ensures.ok);

@@ -3,7 +3,7 @@ use Rattle.std.proofs.lemmas.List.{take_more}
 use Rattle.worker.proofs.DeadLettersLemmas.BesidesLemmas.{besides_breaks}
 use Rattle.worker.proofs.DeadLettersLemmas.DeadLemmas.{on_err}
 use Rattle.worker.specs.DeadLetters.Besides.{GivesUpNow}
-use Rattle.worker.specs.DeadLetters.Dead.{Claimer}
+use Rattle.worker.specs.DeadLetters.Dead.{Claimer, searcher_of}
 use Rattle.worker.specs.Letters.{Names}
 use Rattle.stream_run.specs.GivenUp.{GivesUpEach, names_of_search}
 use Rattle.stream_run.proofs.GivenUpLemmas.{each_besides, each_more, when_dead, when_left}
@@ -29,6 +29,7 @@ loop-note-preserved g c =
     elim c.if-note.branch [
       | then-note+in_ok-give_up w ↦ record {
         names = ap names_of_search w.search-is ∙ w.in_ok-give_up.ensures.names ∙ c.loop-note.invariant.names;
+        same_search = ap searcher_of w.search-is ∙ w.in_ok-give_up.ensures.same_search ∙ c.loop-note.invariant.same_search;
         given_up = subst (λ l. GivesUpEach p (take (k + 1) notes) old l) (sym w.connection-is)
             (subst (λ ns. GivesUpEach p ns old w.give_up.new.connection) all
             (each_more p (take k notes) note old link w.give_up.new.connection c.loop-note.invariant.given_up
@@ -38,6 +39,7 @@ loop-note-preserved g c =
       }
       | else-note w ↦ record {
         names = ap names_of_search w.search-is ∙ c.loop-note.invariant.names;
+        same_search = ap searcher_of w.search-is ∙ c.loop-note.invariant.same_search;
         given_up = subst (λ l. GivesUpEach p (take (k + 1) notes) old l) (sym w.connection-is)
             (subst (λ ns. GivesUpEach p ns old link) all
             (each_more p (take k notes) note old link link c.loop-note.invariant.given_up

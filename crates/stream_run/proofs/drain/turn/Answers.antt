@@ -1,5 +1,7 @@
+use Rattle.std.proofs.lemmas.Bool.{le-ltb}
 use Rattle.worker.proofs.DeadLettersLemmas.DeadLemmas.{on_err}
 use Rattle.stream_run.proofs.GivenUpLemmas.{dead_besides}
+use Rattle.stream_run.proofs.ProgramLemmas.{searched_first}
 use Rattle.stream_run.proofs.RoundsLemmas.{rounds_adds, rounds_besides, rounds_both, rounds_end, rounds_stop, stops_adding}
 use Rattle.stream_run.proofs.RoundsLemmas.{stops_besides}
 use Rattle.stream_run.proofs.drain.turn.Goals as goal
@@ -62,3 +64,17 @@ returns-clause-ok g c =
     c.in_ok-send_added.ensures.ok))
     (rounds_besides c.args.worker.now.settings c.send_added.new.connection c.give_up_dead.new.connection _
     (dead_besides _ _ _ _ c.in_ok-give_up_dead.ensures.ok))))
+
+pub returns-clause-searches : goal.returns-clause-searches
+returns-clause-searches g c = λ settled.
+    rw c.take_notes-notes.ensures.kept (rw c.send_added.ensures.kept
+    (searched_first c.args.worker.now.settings c.args.dead.now c.args.asked c.args.connection.now c.look.new.connection
+    c.give_up_dead.new.connection _ _ (c.in_ok-look.ensures.searches (le-ltb _ _ settled))
+    (rounds_both c.args.worker.now.settings c.look.new.connection c.send_added.new.connection
+    c.give_up_dead.new.connection _ _ _
+    (rounds_both c.args.worker.now.settings c.look.new.connection c.round.new.connection c.send_added.new.connection _ _ _
+    c.in_ok-made.ensures.ok
+    (rounds_adds c.args.worker.now.settings c.round.new.connection c.send_added.new.connection _
+    c.in_ok-send_added.ensures.ok))
+    (rounds_besides c.args.worker.now.settings c.send_added.new.connection c.give_up_dead.new.connection _
+    (dead_besides _ _ _ _ c.in_ok-give_up_dead.ensures.ok)))))

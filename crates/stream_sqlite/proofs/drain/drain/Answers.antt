@@ -55,7 +55,7 @@ pub loop-init : goal.loop-init
 loop-init g c =
     let w = stands c.args.worker.now c.args.rows.now.columns.items c.args.rows.now.loose.items
     (g.T.Table.committed c.args.rows.now.table) in
-    record { settings = refl; leads = leads_same c.args.worker.now.settings c.args.connection.now w }
+    record { settings = refl; same_search = refl; leads = leads_same c.args.worker.now.settings c.args.connection.now w }
 
 pub loop-preserved : goal.loop-preserved
 loop-preserved g c =
@@ -68,6 +68,7 @@ loop-preserved g c =
     (g.T.Table.committed c.turn.new.rows.table) in
     record {
       settings = c.turn.ensures.settings ∙ c.loop.invariant.settings;
+      same_search = c.turn.ensures.same_search ∙ c.loop.invariant.same_search;
       leads = leads_both settings c.args.connection.now c.loop.connection c.turn.new.connection w x y
           c.loop.invariant.leads
           (subst (λ (s : Settings). Leads (Loops s) c.loop.connection c.turn.new.connection x y)

@@ -1,4 +1,5 @@
 use Rattle.std.proofs.Common.{List, Option}
+use Rattle.std.proofs.lemmas.Bool.{le-ltb}
 use Rattle.worker_table.specs.RowTable.Rows.{Row}
 use Rattle.worker_table.specs.declared.row_table.cell.Column.{Column}
 use Rattle.worker_table.specs.declared.row_table.row.Row as memory
@@ -7,7 +8,7 @@ use Rattle.worker.proofs.DeadLettersLemmas.DeadLemmas.{on_err}
 use Rattle.worker.specs.Session.{Standing, standing_of}
 use Rattle.worker.specs.declared.worker.Worker.{Worker}
 use Rattle.worker_table.proofs.LivedLemmas.{leads_end}
-use Rattle.stream_sqlite.proofs.LookLemmas.{leads_breaks, looked_on, looked_stops}
+use Rattle.stream_sqlite.proofs.LookLemmas.{leads_breaks, looked_on, looked_stops, searched_first}
 use Rattle.stream_sqlite.proofs.drain.turn.Goals as goal
 
 -- the state of a worker, with what its handler keeps
@@ -50,3 +51,12 @@ returns-clause-ok g c =
     (g.T.Table.committed c.round.new.rows.table) in
     looked_on c.args.worker.now.settings c.args.connection.now c.look.new.connection c.round.new.connection w y
     c.in_ok-look.ensures.ok c.in_ok-made.ensures.ok
+
+pub returns-clause-searches : goal.returns-clause-searches
+returns-clause-searches g c = λ settled.
+    let w = stands c.args.worker.now c.args.rows.now.columns.items c.args.rows.now.loose.items
+    (g.T.Table.committed c.args.rows.now.table) in
+    let y = stands c.round.new.worker c.round.new.rows.columns.items c.round.new.rows.loose.items
+    (g.T.Table.committed c.round.new.rows.table) in
+    searched_first c.args.worker.now.settings c.args.dead.now c.args.asked c.args.connection.now c.look.new.connection
+    c.round.new.connection w y (c.in_ok-look.ensures.searches (le-ltb _ _ settled)) c.in_ok-made.ensures.ok

@@ -66,7 +66,7 @@ pub loop-init : goal.loop-init
 loop-init g c =
     let w = stands c.args.worker.now c.args.rows.now.columns.items c.args.rows.now.loose.items
     (g.T.WithOutbox.committed c.args.rows.now.table) in
-    record { settings = refl; forwards = begins c.args.connection.now (g.T.WithOutbox.committed c.args.rows.now.table) w }
+    record { settings = refl; same_search = refl; forwards = begins c.args.connection.now (g.T.WithOutbox.committed c.args.rows.now.table) w }
 
 pub loop-preserved : goal.loop-preserved
 loop-preserved g c =
@@ -79,6 +79,7 @@ loop-preserved g c =
     (g.T.WithOutbox.committed c.pass.new.rows.table) in
     record {
       settings = c.pass.ensures.settings ∙ c.loop.invariant.settings;
+      same_search = c.pass.ensures.same_search ∙ c.loop.invariant.same_search;
       forwards = forwards_both settings c.args.connection.now c.loop.connection c.pass.new.connection
           (g.T.WithOutbox.committed c.args.rows.now.table) (g.T.WithOutbox.committed c.loop.rows.table)
           (g.T.WithOutbox.committed c.pass.new.rows.table) w x y c.loop.invariant.forwards
