@@ -1,8 +1,10 @@
 """jagyerti run: handlers that work, end, hang and are stopped, beside a program in place of stream_run."""
+import contextlib
 import os
 import re
 import shutil
 import signal
+import socket
 import subprocess
 import sys
 import threading
@@ -234,8 +236,19 @@ class Run(Running):
                    "try:\n    open(mark, 'x')\nexcept FileExistsError:\n    sys.exit(3)\nprint('done', flush=True)\n" + DONE)
         running = self.begin(handler, "--pause", "0.02", "--processes", "2", "--timeout", "60", waits=True)
         accepted = []
-        threading.Thread(target=lambda: accepted.extend(self.listener.accept() for _ in range(9)), daemon=True).start()
+
+        def accept():
+            with contextlib.suppress(OSError):
+                while True:
+                    accepted.append(self.listener.accept())
+
+        accepting = threading.Thread(target=accept, daemon=True)
+        accepting.start()
         said = self.said(running, 4)
+        # It ends in this test: an error of a thread that is left is printed into the output of another test.
+        self.listener.shutdown(socket.SHUT_RDWR)
+        accepting.join(20)
+        self.assertFalse(accepting.is_alive())
         self.assertIn("it ended 5 times in a row before any reply", said)
         self.assertIn("done 2, batches 1", said)
 
@@ -255,8 +268,8 @@ class Run(Running):
         handler = ("import os, sys, time\nmark = sys.argv[0] + '.mark'\nsys.stdin.readline()\n"
                    "if not os.path.exists(mark):\n    open(mark, 'w')\n    time.sleep(50)\n"
                    "print('done', flush=True)\n" + DONE)
-        said = self.said(self.begin(handler, "--job-timeout", "0.4", "--pause", "0.02"), 0)
-        self.assertIn("the job took more than 0.4 seconds", said)
+        said = self.said(self.begin(handler, "--job-timeout", "3", "--pause", "0.02"), 0)
+        self.assertIn("the job took more than 3 seconds", said)
 
     def test_time_between_jobs_is_no_job(self):
         running = self.begin(DONE, "--job-timeout", "3", waits=True)
