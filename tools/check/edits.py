@@ -85,7 +85,7 @@ def edited(crate, edit, texts=None):
     return function, texts, sites
 
 
-def words_of(crate):
+def check_words(crate, *flags, with_tests=False):
     """Returns the words by which the crate is checked over the built libraries below it, as 'rt check' does."""
     if f"{KIT}/bin" not in sys.path:
         sys.path.insert(0, f"{KIT}/bin")
@@ -96,7 +96,8 @@ def words_of(crate):
             if not os.path.isdir(below.rlib) and subprocess.run(
                     ["rt", "lib"], cwd=below.folder, stdout=subprocess.DEVNULL).returncode:
                 raise Unfit(f"the library {below.name} is not proved")
-    return [f"{KIT}/bin/rattle", "check", *crate.words(["--jobs", "1"], keeps=False)]
+    tests = ["--test"] * (with_tests and crate.has_tests())
+    return [f"{KIT}/bin/rattle", "check", *crate.words(["--jobs", "1", *tests], keeps=False), *flags]
 
 
 def checked(crate, texts, functions, kept):
@@ -109,7 +110,7 @@ def checked(crate, texts, functions, kept):
         for path, text in texts.items():
             write(f"{copy}/{path}", text)
         only = [word for function in functions for word in ("--only", function)]
-        words = [*words_of(crate), "--incremental", kept, *only]
+        words = [*check_words(crate), "--incremental", kept, *only]
         ran = subprocess.run(words, cwd=copy, stdin=subprocess.DEVNULL, stdout=subprocess.PIPE,
                              stderr=subprocess.STDOUT, text=True, errors="replace")
         return ran.stdout.rstrip().split("\n"), ran.returncode
