@@ -1,5 +1,5 @@
 -- Short bulk strings and short array headers.
-use Rattle.std.proofs.Common.{◌≡◌, ◌≤◌, ◌+◌, ◌-◌, ◌*◌, ◌∙◌, ℕ, List, [], ◌∷◌, length, take, drop, slice_index, Option, Some}
+use Rattle.std.proofs.Common.{◌≡◌, ◌≤◌, ◌+◌, ◌-◌, ◌*◌, ◌∙◌, ℕ, zero, suc, List, [], ◌∷◌, length, take, drop, slice_index, Option, Some}
 use Rattle.std.proofs.Common.{Ok, false, refl, sym, ap, arith, le-ltb, nat_lt}
 use Rattle.std.specs.Int.{IsInRange}
 use Rattle.std.proofs.lemmas.List.{length-drop, drop-drop}
@@ -9,11 +9,13 @@ use Rattle.redis_wire.specs.Place.{IsHeadAt, IsTextAt, BeginsWithHead, BeginsWit
 use Rattle.redis_wire.proofs.DigitLemmas.{one_digit_is, two_digits_are}
 use Rattle.redis_wire.proofs.PlaceLemmas.{text_place, text_found}
 
-pub first_two : (xs : List ℕ) (a b : ℕ) → 2 ≤ length xs → slice_index xs 0 ≡ a → slice_index xs 1 ≡ b
-    → xs ≡ a ∷ b ∷ drop 2 xs
-first_two [] a b h p q = absurd (omega arith)
-first_two (x ∷ []) a b h p q = absurd (omega arith)
-first_two (x ∷ y ∷ xs) a b h p q = rw (← p, ← q) refl
+-- the two elements at an offset, and those after them
+pub two_at : (xs : List ℕ) (at a b : ℕ) → at + 2 ≤ length xs → slice_index xs at ≡ a → slice_index xs (suc at) ≡ b
+    → drop at xs ≡ a ∷ b ∷ drop (suc (suc at)) xs
+two_at [] at a b h p q = absurd (omega arith)
+two_at (x ∷ []) zero a b h p q = absurd (omega arith)
+two_at (x ∷ y ∷ xs) zero a b h p q = rw (← p, ← q) refl
+two_at (x ∷ xs) (suc n) a b h p q = two_at xs n a b (omega arith) p q
 
 first_four : (xs : List ℕ) (a b c d : ℕ) → 4 ≤ length xs → slice_index xs 0 ≡ a → slice_index xs 1 ≡ b
     → slice_index xs 2 ≡ c → slice_index xs 3 ≡ d → xs ≡ a ∷ b ∷ c ∷ d ∷ drop 4 xs
@@ -69,12 +71,10 @@ head_stands limits bytes left at first k n h same le = record {
 
 -- ---- a text and its end
 
-module _ (limits : Limits) (bytes behind : List ℕ) (at start n : ℕ) (head : IsHeadAt limits bytes at 36 (Some n) start)
-    (ends : behind ≡ 13 ∷ 10 ∷ drop 2 behind) (same : behind ≡ drop (start + n) bytes)
-    (room : start + n + 2 ≤ length bytes) where
+module _ (limits : Limits) (bytes : List ℕ) (at start n : ℕ) (head : IsHeadAt limits bytes at 36 (Some n) start)
+    (ends : drop (start + n) bytes ≡ 13 ∷ 10 ∷ drop (start + n + 2) bytes) (room : start + n + 2 ≤ length bytes) where
   tail : drop n (drop start bytes) ≡ 13 ∷ 10 ∷ drop (start + n + 2) bytes
-  tail = drop-drop n start bytes ∙ sym same ∙ ends
-      ∙ ap (λ (xs : List ℕ). 13 ∷ 10 ∷ xs) (ap (drop 2) same ∙ drop-drop 2 (start + n) bytes)
+  tail = drop-drop n start bytes ∙ ends
 
   blob : blob_at n (drop start bytes) ≡ Ok (take n (drop start bytes), drop (start + n + 2) bytes)
   unfolding blob_at before_crlf

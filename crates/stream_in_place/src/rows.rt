@@ -40,6 +40,7 @@ pub fn is_text(bytes: &[u8]) -> bool
 }
 
 /// Returns the UTF-8 text of the bulk string at offset `at`, and the offset of its end.
+#[inline(always)]
 pub fn name_at(limits: Limits, bytes: &[u8], at: usize) -> Option<(Span, usize)>
     requires { at ≤ length bytes.now }
     ensures is { IfSome result (λ x. IsTextAt limits bytes.now at x.0 x.1) }

@@ -14,15 +14,13 @@ fn is_crlf(first: u8, second: u8) -> bool
     first as u32 + 256 * second as u32 == 2573
 }
 
-/// Whether the bytes start with CR LF.
+/// Whether CR LF is at offset `at`.
 #[inline(always)]
-fn begins_with_crlf(bytes: &[u8]) -> bool
-    ensures { result ≡ true → bytes.now ≡ 13 ∷ 10 ∷ drop 2 bytes.now }
+fn is_crlf_at(bytes: &[u8], at: usize) -> bool
+    requires { at + 2 ≤ length bytes.now }
+    ensures { result ≡ true → drop at bytes.now ≡ 13 ∷ 10 ∷ drop (at + 2) bytes.now }
 {
-    match bytes {
-        [c, d, ..] => is_crlf(*c, *d),
-        _ => false,
-    }
+    is_crlf(bytes[at], bytes[at + 1])
 }
 
 /// The length after the first byte of a value, if it is one digit.
@@ -79,8 +77,7 @@ fn text_from(
     ensures found { (text rest : List ℕ) → BeginsWithText limits (drop at bytes.now) text rest
         → IfSome result (λ x. (text_in bytes.now x.0 ≡ text) × EndsBefore bytes.now rest x.1) }
 {
-    let (_, behind) = bytes.split_at(start + len);
-    if !begins_with_crlf(behind) {
+    if !is_crlf_at(bytes, start + len) {
         return None;
     }
     Some((Span { start, len }, start + len + 2))

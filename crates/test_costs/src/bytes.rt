@@ -15,6 +15,8 @@ pub enum Reading {
     Fields,
     /// Two fields of each entry are got by name, in place.
     Gets,
+    /// A stream is fed the reply in one piece. Its length and the offsets of all parts are found in place.
+    Received,
     /// The value is decoded, and no record is made.
     Decoded,
     /// The record is made, and all that `Fields` reads is read.
@@ -46,6 +48,7 @@ impl Reading {
             "places" => Some(Reading::Places),
             "fields" => Some(Reading::Fields),
             "gets" => Some(Reading::Gets),
+            "received" => Some(Reading::Received),
             "decoded" => Some(Reading::Decoded),
             "copied" => Some(Reading::Copied),
             "fed" => Some(Reading::Fed(10)),

@@ -1,9 +1,10 @@
 //! The reply, read in place.
-ghost use Rattle.std.specs.Prelude.{IfOk};
+ghost use Rattle.std.specs.Prelude.{◌++◌, IfOk};
 ghost use Rattle.test_costs.specs.Found.{HasStreams, AreInPlace};
 
 use anyhow::anyhow;
-use redis_wire::Limits;
+use redis_wire::{Limits, ReplyStream};
+use std::alloc::Global;
 use stream_in_place::{EntriesRef, EntryTape, FieldsRef, StreamsRef};
 
 /// Two names that are fields of every entry.
@@ -17,6 +18,25 @@ pub fn places(tape: &mut EntryTape, bytes: &[u8]) -> Result<usize, anyhow::Error
         Some(found) => Ok(found.streams.len()),
         None => Err(anyhow!("not in place")),
     }
+}
+
+/// Feeds the reply in one piece, finds its length and the offsets of all parts, and consumes it, as a worker
+/// does. Returns the number of streams.
+pub fn receive(
+    alloc: Global,
+    stream: &mut ReplyStream,
+    tape: &mut EntryTape,
+    bytes: &[u8],
+) -> Result<usize, anyhow::Error>
+    ensures { IfOk result (λ count. HasStreams (stream.old.bytes ++ bytes.now) count) }
+{
+    stream.feed(bytes)?;
+    let Some(len) = stream.next_in_place(alloc)? else {
+        return Err(anyhow!("not whole"));
+    };
+    let count = places(tape, stream.bytes())?;
+    stream.give_out(len);
+    Ok(count)
 }
 
 /// Returns the sum of the lengths of all ids, names and values.

@@ -13,7 +13,8 @@
 //! each of four fields, and whether it is RESP2's array of streams or RESP3's map of them.
 //!
 //! The readings: `places` finds the offsets of all parts; `fields` also reads each id, name and value, in
-//! place; `gets` gets two fields of each entry by name; `decoded` decodes the value and makes no record;
+//! place; `gets` gets two fields of each entry by name; `received` is `places` of a reply that a stream of
+//! replies was fed, as a worker reads it; `decoded` decodes the value and makes no record;
 //! `copied` makes the record, and reads what `fields` does; `fed` feeds ten replies to a stream of
 //! replies, each in one piece, and then takes them out; `fed-bytes` feeds ten replies byte by byte
 //! and asks for a reply after each byte; `fed-one` and `fed-one-bytes` do so with one.
@@ -144,6 +145,7 @@ fn read(alloc: Global, bytes: &[u8], job: BytesJob) -> Result<usize, anyhow::Err
         let read = match job.reading {
             Reading::Fed(answers) => fed(alloc, &mut stream, bytes, answers)?,
             Reading::FedBytes(answers) => fed_bytes(alloc, &mut stream, bytes, answers)?,
+            Reading::Received => in_place::receive(alloc, &mut stream, &mut tape, bytes)?,
             _ => once(alloc, &mut tape, bytes, job.reading)?,
         };
         sum = sum.wrapping_add(read);
@@ -194,7 +196,7 @@ fn once(
     reading: Reading,
 ) -> Result<usize, anyhow::Error> {
     match reading {
-        Reading::Print | Reading::Fed(_) | Reading::FedBytes(_) => Ok(0),
+        Reading::Print | Reading::Received | Reading::Fed(_) | Reading::FedBytes(_) => Ok(0),
         Reading::Places => in_place::places(tape, bytes),
         Reading::Fields => in_place::fields(tape, bytes),
         Reading::Gets => in_place::gets(tape, bytes),

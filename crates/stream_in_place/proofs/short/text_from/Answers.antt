@@ -4,12 +4,11 @@ use Rattle.stream_in_place.proofs.short.text_from.Goals as goal
 
 pub returns-clause-is : goal.returns-clause-is
 returns-clause-is c =
-    let ends = c.begins_with_crlf.ensures (search rules) in
-    text_stands c.args.limits c.args.bytes.now _ c.args.at c.args.start c.args.len c.requires.head ends (search rules)
-    c.requires.room
+    let ends = c.is_crlf_at.ensures (search rules) in
+    text_stands c.args.limits c.args.bytes.now c.args.at c.args.start c.args.len c.requires.head ends c.requires.room
 
 pub returns-clause-found : goal.returns-clause-found
 returns-clause-found c =
-    let ends = c.begins_with_crlf.ensures (search rules) in
-    text_stands_found c.args.limits c.args.bytes.now _ c.args.at c.args.start c.args.len c.requires.head ends
-    (search rules) c.requires.room
+    let ends = c.is_crlf_at.ensures (search rules) in
+    text_stands_found c.args.limits c.args.bytes.now c.args.at c.args.start c.args.len c.requires.head ends
+    c.requires.room
