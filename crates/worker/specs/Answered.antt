@@ -21,7 +21,7 @@ use Rattle.worker.specs.declared.state.Settings.{Settings}
 use Rattle.worker.specs.declared.worker.Progress.{Progress}
 use Rattle.worker.specs.declared.worker.Progress.TheVariants.{GoesOn}
 
--- the errors with which a value may be refused as a reply to the command
+-- decoding the value `t` as a reply to the command may fail with `error`
 abbrev pub MayRefuse : Asked → Tree → ParsingError → Type 0
 MayRefuse asked.Nothing t error = ⊥
 MayRefuse asked.Acknowledgement t error = Refuses (unsigned_reading 64) RefusesNumber t error
@@ -31,8 +31,8 @@ MayRefuse asked.Own t error = Refuses sent_streams_reading RefusesSentStreams t 
 MayRefuse asked.Claim t error = Refuses sent_autoclaim_reading RefusesSentAutoClaim t error
 MayRefuse asked.New t error = Refuses sent_streams_reading RefusesSentStreams t error
 
--- an entry has nil in place of its fields, in a reply where servers do not send nil for a deleted one: the first such
--- entry has this id
+-- `id` is the id of the first entry with nil in place of its fields, in a claim or among new entries. Servers
+-- send no nil for deleted entries in these replies
 abbrev pub HasNil : List ℕ → Asked → Tree → List ℕ → Type 0
 HasNil key asked.Nothing t id = ⊥
 HasNil key asked.Acknowledgement t id = ⊥
@@ -44,14 +44,15 @@ HasNil key asked.Claim t id =
 HasNil key asked.New t id = (es : List SentEntry) × (entries_read key t ≡ Some es) × (first_nil es ≡ Some id)
 
 module _ {R : Type 0} (with_verdict : R → List ℕ × Pairs → Verdict → R) where
-  -- the machine took the reply, and its handler returned these verdicts for the entries, which end so
+  -- the machine took the reply, and the handler returned `verdicts` for its entries. `how` says how the entries
+  -- ended
   pub record Took (answer : Answer Pairs) (m n : Machine) (r s : R) (how : Ending) : Type 0 where
     pub verdicts : List Verdict
     pub machine : n ≡ after m answer verdicts
     pub history : s ≡ with_all with_verdict r (told_in (entries_in answer) verdicts)
     pub ended : how ≡ ending (entries_in answer) verdicts
 
-  -- the worker took what it heard
+  -- the worker took a reply, by its meaning
   abbrev pub GoesBy : Heard → Machine → Machine → R → R → Progress → Type 0
   GoesBy (told answer) m n r s p = Took answer m n r s (ending_of p)
   GoesBy no_group m n r s p = (n ≡ m) × (s ≡ r) × (p ≡ GoesOn)
@@ -63,20 +64,20 @@ module _ {R : Type 0} (with_verdict : R → List ℕ × Pairs → Verdict → R)
     pub said : hears settings question a ≡ Some heard
     pub goes : GoesBy heard m n r s p
 
-  -- the first entries got verdicts, and then memory ran out
+  -- the handler returned verdicts for the first entries, and then memory ran out
   pub record WasCut (settings : Settings) (question : Asked) (t : Tree) (m n : Machine) (r s : R) : Type 0 where
     pub answer : Answer Pairs
     pub said : hears settings question (wire.value t) ≡ Some (told answer)
     pub took : Took answer m n r s cut_off
 
-  -- an aggregate with an error in it, or a push message: not a reply to a command
+  -- the reply belongs to no command: it is an aggregate with an error in it, or a push message
   abbrev pub IsNoAnswer : wire.Answer → Type 0
   IsNoAnswer (wire.value t) = ⊥
   IsNoAnswer (wire.refused text) = ⊥
   IsNoAnswer (wire.group kind members) = Unit {0}
   IsNoAnswer (wire.pushed kind payload) = Unit {0}
 
-  -- why a worker did not take a reply, and its state then
+  -- why a worker did not take the reply `a`, and the state of the worker after that
   abbrev pub Failed : Settings → Asked → wire.Answer → Machine → Machine → R → R → WorkerError → Type 0
   Failed settings question a m n r s causes.NotAsked = (question ≡ asked.Nothing) × (n ≡ m) × (s ≡ r)
   Failed settings question a m n r s (causes.Server e) =

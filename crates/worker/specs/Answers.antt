@@ -19,19 +19,20 @@ use Rattle.worker.specs.declared.state.MakeGroup.{MakeGroup}
 use Rattle.worker.specs.declared.state.MakeGroup.TheVariants.{Never, FromTheFirst, FromNow}
 use Rattle.worker.specs.declared.state.Settings.{Settings}
 
--- what a worker hears: a reply for its machine; that there is no group, which it creates next; that one was created
+-- the meaning of a reply to a worker: a reply for its machine, that the group is missing, or that the group was
+-- created
 pub data Heard : Type 0 where
   told : Answer Pairs → Heard
   no_group : Heard
   group_made : Heard
 
--- the entries of the only stream; an empty list if there is no stream
+-- the entries of the only stream, if its name is `key`. An empty list if there is no stream
 abbrev pub only_stream : List ℕ → List SentStream → Option (List SentEntry)
 only_stream key [] = Some []
 only_stream key (s ∷ []) = if bytes_eq s.name key then Some s.entries else None
 only_stream key (s ∷ t ∷ rest) = None
 
--- the entries of that stream that a value of XREADGROUP holds
+-- the entries of the stream `key` in a value of XREADGROUP
 abbrev pub entries_read : List ℕ → Tree → Option (List SentEntry)
 entries_read key t = option_and_then (only_stream key) (sent_streams_reading t)
 
@@ -44,24 +45,25 @@ abbrev pub first_nil : List SentEntry → Option (List ℕ)
 first_nil [] = None
 first_nil (e ∷ es) = if is_none e.fields then Some e.id else first_nil es
 
--- new entries: nil in one of them is an error, since a server returns nil only for pending entries that were deleted
+-- `es` as new entries, or `None` if one has nil in place of its fields. A server returns nil only for deleted
+-- pending entries
 abbrev pub those_there : List SentEntry → Option (List SentEntry)
 those_there es = if all_there es then Some es else None
 
--- the new entries that a value of XREADGROUP holds
+-- the new entries of the stream `key` in a value of XREADGROUP
 abbrev pub news_read : List ℕ → Tree → Option (List SentEntry)
 news_read key t = option_and_then those_there (entries_read key t)
 
--- a claim: nil in one of its entries is an error, since servers return the ids of deleted ones in a list of their own,
--- or not at all
+-- the claim, or `None` if one of its entries has nil in place of its fields. Servers return the ids of deleted
+-- entries in a separate list, or not at all
 abbrev pub claim_there : SentAutoClaim → Option SentAutoClaim
 claim_there c = if all_there c.claimed then Some c else None
 
--- the claim that a value of XAUTOCLAIM holds
+-- the claim in a value of XAUTOCLAIM
 abbrev pub claim_read : Tree → Option SentAutoClaim
 claim_read t = option_and_then claim_there (sent_autoclaim_reading t)
 
--- the meaning of a value
+-- the meaning of a value, as the reply to a command
 abbrev pub says : List ℕ → Asked → Tree → Option Heard
 says key asked.Nothing t = None
 says key asked.Acknowledgement t = option_map (λ n. told acknowledged) (unsigned_reading 64 t)
@@ -77,15 +79,16 @@ makes_group Never = false
 makes_group FromTheFirst = true
 makes_group FromNow = true
 
--- NOGROUP, if a missing group is created
+-- the meaning of an error reply to the first command: the group is missing, if the code is NOGROUP and a
+-- missing group is created
 abbrev pub where_none : MakeGroup → List ℕ → Option Heard
 where_none make text = if makes_group make && bytes_eq (code_of text) (codes "NOGROUP") then Some no_group else None
 
--- BUSYGROUP: another client created it
+-- the meaning of an error reply to XGROUP CREATE: the code BUSYGROUP says that another client created the group
 abbrev pub where_made : List ℕ → Option Heard
 where_made text = if bytes_eq (code_of text) (codes "BUSYGROUP") then Some group_made else None
 
--- the meaning of an error reply: only the first command of all may find that there is no group
+-- the meaning of an error reply. Only the first command of all may find that the group is missing
 abbrev pub means : MakeGroup → Asked → List ℕ → Option Heard
 means make asked.Nothing text = None
 means make asked.Acknowledgement text = None
@@ -95,14 +98,14 @@ means make asked.Own text = None
 means make asked.Claim text = None
 means make asked.New text = None
 
--- what a worker of these settings hears, if the reply is one to its command
+-- the meaning of a reply to a worker with the settings `s`, or `None` if the reply is an error to the worker
 abbrev pub hears : Settings → Asked → wire.Answer → Option Heard
 hears s question (wire.value t) = says (string_bytes s.key) question t
 hears s question (wire.refused text) = means s.make_group question text
 hears s question (wire.group kind members) = None
 hears s question (wire.pushed kind payload) = None
 
--- a value in reply to this shows that the group exists
+-- whether a value in reply to the command shows that the group exists
 abbrev pub shows_group : Asked → Bool
 shows_group asked.Nothing = false
 shows_group asked.Acknowledgement = false
@@ -112,25 +115,25 @@ shows_group asked.Own = true
 shows_group asked.Claim = true
 shows_group asked.New = true
 
--- what is known of the group after a value
+-- what is known of the group after a value in reply to the command
 abbrev pub by_value : GroupState → Asked → GroupState
 by_value group question = if shows_group question then Known else group
 
--- what is known of it after an error that says this
+-- what is known of the group after an error reply with this meaning
 abbrev pub by_error : GroupState → Option Heard → GroupState
 by_error group None = group
 by_error group (Some (told answer)) = group
 by_error group (Some no_group) = Missing
 by_error group (Some group_made) = Known
 
--- what is known of it after a reply
+-- what is known of the group after the reply
 abbrev pub group_after : Settings → GroupState → Asked → wire.Answer → GroupState
 group_after s group question (wire.value t) = by_value group question
 group_after s group question (wire.refused text) = by_error group (means s.make_group question text)
 group_after s group question (wire.group kind members) = group
 group_after s group question (wire.pushed kind payload) = group
 
--- a known group is gone: NOGROUP to a command after the first
+-- whether an error reply says that a known group is gone: NOGROUP to a command after the first
 abbrev pub is_gone : Asked → List ℕ → Bool
 is_gone asked.Nothing text = false
 is_gone asked.Acknowledgement text = false

@@ -13,17 +13,17 @@ use Rattle.worker.specs.declared.error.WorkerError.{WorkerError}
 use Rattle.worker.specs.declared.error.WorkerError.TheVariants as causes
 use Rattle.worker.specs.declared.state.Asked.{Asked}
 
--- a command that was not written
+-- the error for a command that was not written
 abbrev pub request_error : WriteError → RequestError
 request_error writing.Memory = requests.Memory
 request_error writing.Full = requests.TooLong
 
--- a value that was not read
+-- the error for a value that was not decoded
 abbrev pub read_error : ParsingError → WorkerError
 read_error parsing.Memory = causes.Memory
 read_error error = causes.Parsing error
 
--- what was received, and the same error of the connection with the command that waits for its reply
+-- a result of the connection as a result of the worker. An error names the command that waits for its reply
 abbrev pub received_for : {A : Type 0} → Asked → Result A ConnectionError → Result A RunError
 received_for asked (Ok a) = Ok a
 received_for asked (Err e) = Err (runs.Receive asked e)

@@ -12,13 +12,13 @@ use Rattle.worker.specs.declared.worker.Progress.TheVariants.{GoesOn}
 
 module _ {R : Type 0} (with_verdict : R → List ℕ × Pairs → Verdict → R) (with_commit : R → R)
     (settings : Settings) where
-  -- each of these rounds sent an acknowledgement
+  -- the worker sent XACK in each of these rounds
   abbrev pub Acknowledge : Standing R → List Turn → Type 0
   Acknowledge w [] = Unit {0}
   Acknowledge w (t ∷ turns) = ((asking with_commit settings w).asked ≡ Acknowledgement)
       × Acknowledge (after_turn with_verdict with_commit settings w t) turns
 
-  -- at most two rounds were made, each of which sent an acknowledgement, and then everything done is committed and
+  -- at most two rounds were made, and the worker sent XACK in each. After them everything done is committed and
   -- acknowledged
   pub record Finished (old new : Link) (w x : Standing R) : Type 0 where
     pub n : ℕ
@@ -28,13 +28,14 @@ module _ {R : Type 0} (with_verdict : R → List ℕ × Pairs → Verdict → R)
     pub committed : x.machine.to_commit ≡ []
     pub acknowledged : x.machine.to_acknowledge ≡ []
 
-  -- one of the two rounds failed, and it and the one before sent an acknowledgement
+  -- one of at most two rounds failed. The worker sent XACK in that round and in the one before, if there was
+  -- one
   pub record FinishBroke (old new : Link) (w x : Standing R) (e : RunError) : Type 0 where
     pub broke : Broke with_verdict with_commit settings old new w x 2 e
     pub asked : Acknowledge w broke.made.turns
     pub last : (asking with_commit settings broke.before).asked ≡ Acknowledgement
 
-  -- nothing was to be committed or acknowledged, and nothing was done; or one round was made, which acknowledged
+  -- nothing was to be committed or acknowledged, and nothing changed; or one round was made, with an XACK
   abbrev pub Settles : Link → Link → Standing R → Standing R → Type 0
   Settles old new w x = ((is_settled w.machine ≡ true) × (new ≡ old) × (x ≡ w))
       ⊎ ((is_settled w.machine ≡ false) × Turned with_verdict with_commit settings old new w x Acknowledgement GoesOn)

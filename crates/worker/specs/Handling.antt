@@ -6,7 +6,7 @@ use Rattle.stream_in_place.specs.Sent.{Pairs, SentEntry}
 use Rattle.worker.specs.declared.handler.Verdict.{Verdict}
 use Rattle.worker.specs.declared.handler.Verdict.TheVariants.{Done, LeavePending, Stop}
 
--- the verdict of the machine that it is
+-- a verdict of the handler, as the machine's verdict
 abbrev pub verdict_of : Verdict → machine.Verdict
 verdict_of Done = machine.done
 verdict_of LeavePending = machine.left_pending
@@ -16,7 +16,7 @@ verdict_of Stop = machine.stop
 abbrev pub pair_of : SentEntry → List ℕ × Pairs
 pair_of e = (e.id, pairs_or_none e.fields)
 
--- a history with all of these
+-- the history `r` after all these entries and their verdicts
 abbrev pub with_all : {R : Type 0} → (R → List ℕ × Pairs → machine.Verdict → R) → R
     → List ((List ℕ × Pairs) × machine.Verdict) → R
 with_all with_verdict r [] = r

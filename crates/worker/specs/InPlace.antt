@@ -20,7 +20,7 @@ use Rattle.worker.specs.declared.state.Asked.TheVariants.{Nothing}
 use Rattle.worker.specs.declared.state.Settings.{Settings}
 use Rattle.worker.specs.declared.worker.Progress.{Progress}
 
--- the reply at the start of the bytes is this one, whatever its number of values
+-- `bytes` starts with the reply `a`. The limits of `limits` on the number of values do not apply
 pub record Heads (limits : Limits) (bytes : List ℕ) (a : wire.Answer) : Type 0 where
   pub text : List ℕ
   pub rest : List ℕ
@@ -46,19 +46,19 @@ module _ {R : Type 0} (with_verdict : R → List ℕ × Pairs → Verdict → R)
       × Failed with_verdict settings w.asked a w.machine x.machine w.history x.history e.error
       × (x.group ≡ group_after settings w.group w.asked a) × (x.asked ≡ Nothing) × (e.asked ≡ w.asked)
 
-  -- one or the other, by what is returned
+  -- `WentInPlace` or `FailedInPlace`, by the result
   abbrev pub TakenInPlace : Standing R → Standing R → Result Progress InPlaceError → Type 0
   TakenInPlace w x (Ok p) = WentInPlace w x p
   TakenInPlace w x (Err e) = FailedInPlace w x e
 
--- the same of a value
+-- what the value `t`, as the reply to the command, changes in a worker, by the result
 abbrev pub TakenByValue : {R : Type 0} → (R → List ℕ × Pairs → Verdict → R) → Settings → Asked → Tree → Machine
     → Machine → R → R → Result Progress WorkerError → Type 0
 TakenByValue with_verdict settings question t m n r s (Ok p) = Went with_verdict settings question (wire.value t) m n r s p
 TakenByValue with_verdict settings question t m n r s (Err e) =
     Failed with_verdict settings question (wire.value t) m n r s e
 
--- the result of a reply to this command; an error names the command
+-- the result of taking a reply to the command `question`. An error names the command
 abbrev pub in_answer : Asked → Result Progress WorkerError → Result Progress InPlaceError
 in_answer question (Ok p) = Ok p
 in_answer question (Err e) = Err (causes.Answer (let a : AnswerError = record { asked = question; error = e } in a))

@@ -17,7 +17,7 @@ pub record Desk : Type 0 where
   pub waiting : List (Id × List ℕ)
   pub added : Bool
 
--- the id of an entry, and the bytes of its XADD
+-- the id of an entry that is given up, and the bytes of its XADD
 abbrev pub letter_of : Letter → Id × List ℕ
 letter_of l = (string_bytes l.id, l.command.items)
 
@@ -25,11 +25,11 @@ letter_of l = (string_bytes l.id, l.command.items)
 abbrev pub desk_of : DeadLetters → Desk
 desk_of d = record { waiting = map letter_of d.letters.items; added = d.added }
 
--- the stream, its group, and the stream of dead letters
+-- the stream, the group, and the dead-letter stream
 abbrev pub names_of : DeadLetters → List ℕ × List ℕ × List ℕ
 names_of d = (string_bytes d.key, string_bytes d.group, string_bytes d.dead)
 
--- the field of a reason, which a letter without one does not have
+-- the field `reason`. There is none if the text is empty
 abbrev pub reason_words : List ℕ → List (List ℕ)
 reason_words [] = []
 reason_words (b ∷ text) = codes "reason" ∷ (b ∷ text) ∷ []
@@ -56,45 +56,46 @@ Entry = Id × Fields
 abbrev pub words_of : Fields → List (List ℕ)
 words_of fields = flat_map (λ f. f.0 ∷ f.1 ∷ []) fields
 
--- the bytes of the XADD of an entry's letter, if it was delivered this often, and given up for this reason
+-- the bytes of the XADD of a letter: the entry `e` was delivered `deliveries` times and is given up for
+-- `reason`
 abbrev pub letter_for : List ℕ → Entry → ℕ → List ℕ → List ℕ
 letter_for dead e deliveries reason = command_bytes (letter_sentence dead reason e.0 deliveries (words_of e.1))
 
--- the command for the first entry: its letter is added, and after that it is acknowledged
+-- the next command for the first entry: XADD of its letter, or XACK after the letter was added
 abbrev pub of_first : List ℕ × List ℕ × List ℕ → Id × List ℕ → Bool → List ℕ
 of_first names letter false = letter.1
 of_first names letter true = command_bytes (codes "XACK" ∷ names.0 ∷ names.1 ∷ letter.0 ∷ [])
 
--- the bytes of that command
+-- the bytes of the next command for the first entry, if there is one
 abbrev pub bytes_of_first : List ℕ × List ℕ × List ℕ → List (Id × List ℕ) → Bool → List ℕ
 bytes_of_first names [] added = []
 bytes_of_first names (letter ∷ rest) added = of_first names letter added
 
--- the bytes of the next command
+-- the bytes of the next command for a letter
 abbrev pub letter_bytes : List ℕ × List ℕ × List ℕ → Desk → List ℕ
 letter_bytes names desk = bytes_of_first names desk.waiting desk.added
 
--- what that command asks
+-- which command is next for the first entry: XADD, XACK, or no command if there is no entry
 abbrev pub asks_of_first : List (Id × List ℕ) → Bool → LetterAsked
 asks_of_first [] added = asked.Nothing
 asks_of_first (letter ∷ rest) false = asked.Add
 asks_of_first (letter ∷ rest) true = asked.Acknowledge
 
--- what the next command asks
+-- which command is next
 abbrev pub letter_asks : Desk → LetterAsked
 letter_asks desk = asks_of_first desk.waiting desk.added
 
--- the value is a text, as an id is
+-- whether the value is a bulk string, as an id is
 abbrev pub is_text : Tree → Bool
 is_text (bulk bytes) = true
 is_text _ = false
 
--- the value is a number, as a count is
+-- whether the value is an integer, as a count is
 abbrev pub is_count : Tree → Bool
 is_count (int z) = true
 is_count _ = false
 
--- the reply is of the kind that the command returns
+-- whether the reply is of the kind that the command returns
 abbrev pub serves : LetterAsked → wire.Answer → Bool
 serves asked.Nothing a = false
 serves asked.Add (wire.value t) = is_text t
@@ -106,20 +107,20 @@ serves asked.Acknowledge (wire.refused text) = false
 serves asked.Acknowledge (wire.group kind members) = false
 serves asked.Acknowledge (wire.pushed kind payload) = false
 
--- after such a reply: the first letter was added; or the first entry was acknowledged, and is removed
+-- the queue after a valid reply. After XADD the letter is added, and after XACK the entry is removed
 abbrev pub after_letter : LetterAsked → Desk → Desk
 after_letter asked.Nothing desk = desk
 after_letter asked.Add desk = record desk { added = true }
 after_letter asked.Acknowledge desk = record { waiting = drop 1 desk.waiting; added = false }
 
--- the reply is not an error
+-- the reply is not a top-level error
 abbrev pub IsNoError : wire.Answer → Type 0
 IsNoError (wire.value t) = Unit {0}
 IsNoError (wire.refused text) = ⊥
 IsNoError (wire.group kind members) = Unit {0}
 IsNoError (wire.pushed kind payload) = Unit {0}
 
--- why a reply was refused
+-- why a reply was refused, by the error
 abbrev pub Unserved : LetterAsked → wire.Answer → LetterError → Type 0
 Unserved question a causes.NotAsked = question ≡ asked.Nothing
 Unserved question a (causes.Server e) = (question ≢ asked.Nothing) × (a ≡ wire.refused e.text.items)

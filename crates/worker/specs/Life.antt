@@ -15,32 +15,33 @@ use Rattle.worker.specs.declared.state.Asked.TheVariants.{Nothing}
 use Rattle.worker.specs.declared.state.Settings.{Settings}
 use Rattle.worker.specs.declared.worker.Progress.{Progress}
 
--- the id of an entry that came with nil in place of its fields, since it was deleted from the stream
+-- the id, if the entry has nil in place of its fields, since it was deleted from the stream; else no id
 abbrev pub deleted_one : {F : Type 0} → Id → Option F → List Id
 deleted_one id None = id ∷ []
 deleted_one id (Some fields) = []
 
--- the ids of all of them
+-- the ids of the deleted entries in a list
 abbrev pub deleted_in : {F : Type 0} → List (Delivered F) → List Id
 deleted_in [] = []
 deleted_in (e ∷ es) = deleted_one e.0 e.1 ++ deleted_in es
 
--- and of those that were heard of
+-- the ids of the deleted entries that a worker heard of
 abbrev pub deleted_by : Option Heard → List Id
 deleted_by None = []
 deleted_by (Some (told answer)) = deleted_in (entries_in answer)
 deleted_by (Some no_group) = []
 deleted_by (Some group_made) = []
 
--- an entry of this id was done, and that was committed
+-- an entry with the id `id` was done and committed
 abbrev pub IsCommitted : Doings → Id → Type 0
 IsCommitted d id = (fields : Pairs) × Among (id, fields) d.committed
 
--- what was committed before a worker was started, and nothing that is to be committed
+-- the history of a handler that has committed `es` and has nothing left to commit
 abbrev pub done_before : List (Entry Pairs) → Doings
 done_before es = record { loose = []; committed = es }
 
--- a worker that is started to acknowledge these ids first, where these entries were committed before
+-- the state of a worker that is started with `ids`, which it acknowledges first. The entries `before` were
+-- committed before the start
 abbrev pub resumed_with : Settings → List Id → List (Entry Pairs) → Standing Doings
 resumed_with settings ids before = record {
   machine = record (start settings.every) { to_acknowledge = ids };
@@ -49,16 +50,16 @@ resumed_with settings ids before = record {
   history = done_before before;
 }
 
--- a new worker, whose handler did nothing yet
+-- the state of a new worker, whose handler has done nothing yet
 abbrev pub newborn : Settings → Standing Doings
 newborn settings = resumed_with settings [] []
 
 module _ (settings : Settings) where
-  -- the ids of entries that this reply returned without fields
+  -- the ids of the deleted entries in the reply `a`
   abbrev pub deleted_told : Standing Doings → wire.Answer → List Id
   deleted_told w a = deleted_by (hears settings (asking committed_too settings w).asked a)
 
-  -- and of those that came in a round that failed
+  -- the ids of the deleted entries in the reply of a round that failed, if it had a reply
   abbrev pub deleted_at : (old new : Link) (w x : Standing Doings) (e : RunError)
       → Fails done_too committed_too settings old new w x e → List Id
   deleted_at old new w x (causes.Request e) f = []
@@ -66,15 +67,15 @@ module _ (settings : Settings) where
   deleted_at old new w x (causes.Receive named e) f = []
   deleted_at old new w x (causes.Answer e) f = deleted_told w f.1.0
 
-  -- and of those that came in turns, one after the other
+  -- the ids of the deleted entries in the replies of these turns, in order
   abbrev pub deleted_turns : Standing Doings → List Turn → List Id
   deleted_turns w [] = []
   deleted_turns w (t ∷ turns) =
       deleted_told w t.answer ++ deleted_turns (after_turn done_too committed_too settings w t) turns
 
-  -- the states that a worker may reach, with the entries that were reported as deleted: at first it is new, or was
-  -- started with ids whose entries were committed before; in each round it takes a reply, or the round fails, and it
-  -- goes on over this connection or another one
+  -- the states that a worker may reach, each with the ids that servers reported as deleted. The first state is
+  -- a new worker, or a worker started with ids that were committed before. In each round the worker takes a
+  -- reply, or the round fails. After a failure it may go on over another connection
   pub data Lives : Standing Doings → List Id → Type 0 where
     begins : Lives (newborn settings) []
     resumes : (ids : List Id) (before : List (Entry Pairs))
@@ -86,19 +87,19 @@ module _ (settings : Settings) where
         (f : Fails done_too committed_too settings old new w x e) → Lives w deleted
         → Lives x (deleted ++ deleted_at old new w x e f)
 
--- the ids that its next command acknowledges, if any
+-- the ids that the next command acknowledges, if it is an XACK
 abbrev pub acknowledges : Settings → Standing Doings → List Id
 acknowledges settings w = (asking committed_too settings w).machine.to_acknowledge
 
--- the law: in each of these states, before a worker acknowledges an id its handler returned `Done` for that entry and
--- committed it, maybe before the worker was started; or the server reported that it was deleted
+-- the law: a worker acknowledges an id only if its entry is committed, or was reported as deleted. The commit
+-- may be from before the worker was started
 abbrev pub OnlyCommittedIsAcknowledged : Type 0
 OnlyCommittedIsAcknowledged = (settings : Settings) (w : Standing Doings) (deleted : List Id)
     → Lives settings w deleted → (id : Id) → Among id (acknowledges settings w)
     → IsCommitted (asking committed_too settings w).history id ⊎ Among id deleted
 
--- the law: the state after `run` is one of these states, after a session that ended and after one that broke off; and
--- it reports exactly the deleted entries that the replies of this session report
+-- the law: after `run` the worker is in one of the states of `Lives`, whether the session ended or broke off.
+-- The session reports exactly the deleted entries that its replies report
 abbrev pub SessionsAreLived : Type 0
 SessionsAreLived = (settings : Settings) (old new : Link) (w x : Standing Doings) (rounds : ℕ) (deleted : List Id)
     → Lives settings w deleted

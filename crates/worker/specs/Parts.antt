@@ -18,53 +18,54 @@ use Rattle.worker.specs.declared.state.Asked.TheVariants as asked
 use Rattle.worker.specs.declared.state.GroupState.{GroupState}
 use Rattle.worker.specs.declared.state.GroupState.TheVariants.{Missing, Known}
 
--- a value that was refused, with the error that this makes
+-- decoding the value `t` fails, and `e` is the error of the worker for this
 abbrev pub Unread : {M : Type 0} → (Tree → Option M) → (Tree → ParsingError → Type 0) → Tree → WorkerError → Type 0
 Unread reading may_refuse t e = (p : ParsingError) × (e ≡ read_error p) × Refuses reading may_refuse t p
 
--- memory ran out, or a value holds no streams
+-- memory ran out, or the value `t` is not a list of streams
 abbrev pub NoStreams : Tree → WorkerError → Type 0
 NoStreams t e = (e ≡ causes.Memory) ⊎ Unread sent_streams_reading RefusesSentStreams t e
 
--- it has entries of another stream
+-- the value `t` has entries of another stream than `key`
 abbrev pub IsOther : List ℕ → Tree → WorkerError → Type 0
 IsOther key t e = (e ≡ causes.OtherStream) × (entries_read key t ≡ None) × (sent_streams_reading t ≢ None)
 
--- why a value holds no entries of the stream
+-- why the value `t` has no entries of the stream `key`
 abbrev pub NotRead : List ℕ → Tree → WorkerError → Type 0
 NotRead key t e = NoStreams t e ⊎ IsOther key t e
 
--- the entry that the error names has nil in place of its fields
+-- an entry of the value `t` has nil in place of its fields, and the error names its id
 abbrev pub IsNil : List ℕ → Asked → Tree → WorkerError → Type 0
 IsNil key question t e = (id : String Global) × (e ≡ causes.NilFields id) × HasNil key question t (string_bytes id)
 
--- why it holds no new entries of the stream
+-- why the value `t` has no new entries of the stream `key`
 abbrev pub NotNews : List ℕ → Tree → WorkerError → Type 0
 NotNews key t e = NotRead key t e ⊎ IsNil key asked.New t e
 
--- memory ran out, or a value holds no claim
+-- memory ran out, or the value `t` is not a reply to XAUTOCLAIM
 abbrev pub NoClaim : Tree → WorkerError → Type 0
 NoClaim t e = (e ≡ causes.Memory) ⊎ Unread sent_autoclaim_reading RefusesSentAutoClaim t e
 
--- why a value is no claim
+-- why the value `t` is not a valid reply to XAUTOCLAIM
 abbrev pub NotClaimed : List ℕ → Tree → WorkerError → Type 0
 NotClaimed key t e = NoClaim t e ⊎ IsNil key asked.Claim t e
 
--- what an error says of the group
+-- the state of the group that an error reply shows, if it shows one
 abbrev pub state_by : Option Heard → Option GroupState
 state_by None = None
 state_by (Some (told answer)) = None
 state_by (Some no_group) = Some Missing
 state_by (Some group_made) = Some Known
 
--- it is a group that was heard of
+-- the error reply shows whether the group exists
 abbrev pub IsOfGroup : Option Heard → Type 0
 IsOfGroup None = ⊥
 IsOfGroup (Some (told answer)) = ⊥
 IsOfGroup (Some no_group) = Unit {0}
 IsOfGroup (Some group_made) = Unit {0}
 
--- no command waits for a reply; or the error is the server's, which reports that the group is gone, or does not
+-- the error for the error reply `text`. No command waits for a reply; or `text` is an error of the server.
+-- `GroupIsGone` is for an error that reports that the group is gone
 abbrev pub IsRefused : Asked → List ℕ → WorkerError → Type 0
 IsRefused question text causes.NotAsked = question ≡ asked.Nothing
 IsRefused question text (causes.Server e) =
@@ -76,7 +77,7 @@ IsRefused question text causes.OtherStream = ⊥
 IsRefused question text (causes.NilFields id) = ⊥
 IsRefused question text causes.Memory = ⊥
 
--- the command reads its own pending entries
+-- whether the command reads the consumer's own pending entries
 abbrev pub reads_own : Asked → Bool
 reads_own asked.Nothing = false
 reads_own asked.Acknowledgement = false
@@ -86,6 +87,6 @@ reads_own asked.Own = true
 reads_own asked.Claim = false
 reads_own asked.New = false
 
--- the value is a count, and the machine has acknowledged
+-- the value `t` is a count. `n` is the machine `m` with nothing left to acknowledge
 abbrev pub IsAcknowledged : Tree → Machine → Machine → Type 0
 IsAcknowledged t m n = (unsigned_reading 64 t ≢ None) × (n ≡ record m { to_acknowledge = [] })

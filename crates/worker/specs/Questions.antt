@@ -12,7 +12,7 @@ use Rattle.worker.specs.declared.state.Phase.TheVariants as phases
 use Rattle.worker.specs.declared.state.Asked.{Asked}
 use Rattle.worker.specs.declared.state.Asked.TheVariants as asked
 
--- the phase of the machine
+-- the machine's phase for the phase of a worker
 abbrev pub phase_of : Phase → machine.Phase
 phase_of phases.Start = own (codes "0")
 phase_of (phases.Own id) = own (string_bytes id)
@@ -46,7 +46,7 @@ group_sentence s =
     codes "XGROUP" ∷ codes "CREATE" ∷ string_bytes s.key ∷ string_bytes s.group ∷ group_start s.make_group
     ∷ codes "MKSTREAM" ∷ []
 
--- the COUNT for entries that were delivered before: its own pending ones, and those that it claims
+-- the COUNT for entries that were delivered before: own pending entries and claimed entries
 abbrev pub count_again : Settings → ℕ
 count_again s = if s.one_at_a_time then 1 else s.count
 
@@ -69,39 +69,39 @@ news_sentence s =
     ∷ codes "BLOCK" ∷ decimal s.block ∷ codes "COUNT" ∷ decimal s.count
     ∷ codes "STREAMS" ∷ string_bytes s.key ∷ codes ">" ∷ []
 
--- the COUNT of a command: `count_again` for entries that were delivered before, and the count of the settings for new
--- ones
+-- the COUNT of the command of a phase
 abbrev pub count_asked : Settings → machine.Phase → ℕ
 count_asked s (own id) = count_again s
 count_asked s (claiming id) = count_again s
 count_asked s (reading rounds) = s.count
 
--- if there is nothing to acknowledge and no group to create, the command of the phase
+-- the command of the phase, if there is nothing to acknowledge and no group to create
 abbrev pub phase_sentence : Settings → machine.Phase → List (List ℕ)
 phase_sentence s (own id) = own_sentence s id
 phase_sentence s (claiming id) = claim_sentence s id
 phase_sentence s (reading rounds) = news_sentence s
 
--- acknowledgements are sent first, and a group is created before anything is read from it
+-- the next command. Committed ids are acknowledged first, and a missing group is created before anything is
+-- read from it
 abbrev pub sentence : Settings → GroupState → machine.Phase → List Id → List (List ℕ)
 sentence s group phase (id ∷ ids) = ack_sentence s (id ∷ ids)
 sentence s Missing phase [] = group_sentence s
 sentence s Unknown phase [] = phase_sentence s phase
 sentence s Known phase [] = phase_sentence s phase
 
--- what the command of the phase asks
+-- which command the phase sends, if the group is known
 abbrev pub phase_asks : machine.Phase → Asked
 phase_asks (own id) = asked.Own
 phase_asks (claiming id) = asked.Claim
 phase_asks (reading rounds) = asked.New
 
--- the same before anything is known of the group
+-- which command the phase sends, before anything is known of the group
 abbrev pub first_asks : machine.Phase → Asked
 first_asks (own id) = asked.First
 first_asks (claiming id) = asked.Claim
 first_asks (reading rounds) = asked.New
 
--- what is asked then
+-- which command `sentence` is
 abbrev pub asks : GroupState → machine.Phase → List Id → Asked
 asks group phase (id ∷ ids) = asked.Acknowledgement
 asks Missing phase [] = asked.Group

@@ -6,7 +6,7 @@ use Rattle.stream_in_place.specs.Sent.{SentStream}
 use Rattle.stream_in_place.specs.SentMeaning.{sent_all}
 use Rattle.stream_in_place.specs.declared.sent.SentRow.{SentRow}
 
--- a stream of a name and rows
+-- a stream with its name and its entries
 abbrev pub named : String Global × Vec SentRow Global → SentStream
 named p = record { name = string_bytes p.0; entries = sent_all p.1 }
 

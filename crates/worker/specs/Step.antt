@@ -14,26 +14,26 @@ use Rattle.worker.specs.declared.state.Asked.{Asked}
 use Rattle.worker.specs.declared.state.Settings.{Settings}
 use Rattle.worker.specs.declared.worker.Progress.{Progress}
 
--- what the worker of that name and its handler did in the world
+-- the entries that the worker `c` has done but not committed in the world `w`, and the entries committed in `w`
 abbrev pub doings_in : World Pairs → Name → Doings
 doings_in w c = record { loose = w.loose c; committed = w.committed }
 
--- for some verdicts the worker of the model takes the reply, and is then in the state of this one, and its handler has
--- done what this one's has
+-- for some verdicts the model's worker takes the reply at the index `k` and reaches the state `n`. Its handler
+-- has then done and committed the entries of `now`
 pub record Steps (w : World Pairs) (k : ℕ) (r : Reply Pairs) (n : Machine) (now : Doings) : Type 0 where
   pub verdicts : List Verdict
   pub worker : (happens w (Comes k verdicts)).workers r.consumer ≡ n
   pub done : (happens w (Comes k verdicts)).loose r.consumer ≡ now.loose
   pub committed : (happens w (Comes k verdicts)).committed ≡ now.committed
 
--- the contract of `answered` is a step of the model, if the reply is the one on its way
+-- the contract of `answered` is a step of the model, if the reply is the one that the model delivers
 abbrev pub AnswersStayInStep : Type 0
 AnswersStayInStep = (w : World Pairs) (k : ℕ) (r : Reply Pairs) → item w.replies k ≡ Some r
     → (settings : Settings) (question : Asked) (a : wire.Answer) → hears settings question a ≡ Some (told r.answer)
     → (n : Machine) (now : Doings) (p : Progress)
     → Went done_too settings question a (w.workers r.consumer) n (doings_in w r.consumer) now p → Steps w k r n now
 
--- and so if memory runs out among the entries
+-- the contract of `answered` is also a step of the model if memory runs out among the entries
 abbrev pub CutsStayInStep : Type 0
 CutsStayInStep = (w : World Pairs) (k : ℕ) (r : Reply Pairs) → item w.replies k ≡ Some r
     → (settings : Settings) (question : Asked) (t : Tree)
@@ -41,19 +41,19 @@ CutsStayInStep = (w : World Pairs) (k : ℕ) (r : Reply Pairs) → item w.replie
     → (n : Machine) (now : Doings)
     → WasCut done_too settings question t (w.workers r.consumer) n (doings_in w r.consumer) now → Steps w k r n now
 
--- the world as the worker of that name sends a command: it commits, if there is something to commit and nothing to
--- acknowledge
+-- the world when the worker `c` sends a command. The worker first commits, if it has something to commit and
+-- nothing to acknowledge
 abbrev pub as_it_asks : World Pairs → Name → World Pairs
 as_it_asks w c = if commits (w.workers c) then happens w (Commit c) else w
 
--- the contract of `request` is steps of the model: a commit, if it commits, and then the acknowledgement that it sends,
--- of what is committed
+-- the contract of `request` is a sequence of steps of the model: a commit, if one is due, and then an
+-- acknowledgement of what is committed
 pub record Asks (w : World Pairs) (c : Name) : Type 0 where
   pub worker : (as_it_asks w c).workers c ≡ at_request (w.workers c)
   pub done : doings_in (as_it_asks w c) c ≡ history_at_request committed_too (w.workers c) (doings_in w c)
   pub sent : (happens (as_it_asks w c) (Acknowledge c)).acks ≡ (c, (at_request (w.workers c)).to_acknowledge)
       ∷ (as_it_asks w c).acks
 
--- and they are so in every world
+-- `Asks` holds in every world, for every worker
 abbrev pub RequestsStayInStep : Type 0
 RequestsStayInStep = (w : World Pairs) (c : Name) → Asks w c

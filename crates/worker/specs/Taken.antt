@@ -15,7 +15,7 @@ use Rattle.worker.specs.declared.state.Asked.TheVariants.{Nothing}
 use Rattle.worker.specs.declared.state.Settings.{Settings}
 use Rattle.worker.specs.declared.worker.Progress.{Progress}
 
--- no reply to this was received, and the error says so, and why
+-- no reply to the command `question` was received. The error names the command and the cause
 abbrev pub Awaited : Asked → Link → Link → RunError → Type 0
 Awaited question old new (causes.Receive named e) =
     AwaitsAnswer old new × IsEnded new e × IsFaulty new.held e × (named ≡ question)
@@ -30,7 +30,8 @@ module _ {R : Type 0} (with_verdict : R → List ℕ × Pairs → Verdict → R)
       × Went with_verdict settings w.asked a w.machine x.machine w.history x.history p
       × (x.group ≡ group_after settings w.group w.asked a) × (x.asked ≡ Nothing)
 
-  -- no reply was received, and nothing changed; or one that is an error to the worker. The error names the command
+  -- no reply was received, and the worker did not change; or the reply is an error to the worker. The error
+  -- names the command
   abbrev pub TakesNot : Link → Link → Standing R → Standing R → RunError → Type 0
   TakesNot old new w x (causes.Receive named e) = (x ≡ w) × Awaited w.asked old new (causes.Receive named e)
   TakesNot old new w x (causes.Answer e) = (a : wire.Answer) × ReceivesAnswer old new a

@@ -52,7 +52,7 @@ impl From<WriteError> for RequestError {
 pub struct AnswerError {
     /// The command that was sent.
     pub asked: Asked,
-    /// Why.
+    /// Why the reply is an error to the worker.
     pub error: WorkerError,
 }
 

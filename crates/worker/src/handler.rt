@@ -40,7 +40,7 @@ pub trait Handler {
     /// The history so far.
     ghost history: { Self → History };
 
-    /// What is known of a commit that failed: of the handler before it, and after it.
+    /// The relation between the handler before a failed commit and the handler after it.
     ghost commit_failed: { Self → Self → Type 0 } = { λ _ _. Unit {0} };
 
     /// Handles an entry: its id and its fields in order, as the server sent them.

@@ -24,7 +24,7 @@ pub enum LetterAsked {
     Acknowledge,
 }
 
-/// Why a reply was refused. Nothing changed, and the same command is requested again.
+/// Why a reply was refused. Nothing changed, and the next call requests the same command again.
 #[derive(Debug, Drop, Error)]
 pub enum LetterError {
     /// No command waits for a reply.
@@ -61,7 +61,8 @@ pub struct DeadLetters {
 }
 
 impl DeadLetters {
-    /// Letters for entries of this group of the stream `key` are added to the stream `dead`. Allocates nothing.
+    /// Returns an empty queue of letters for entries of this group of the stream `key`. Letters are added to
+    /// the stream `dead`. Allocates nothing.
     pub fn new(alloc: Global, key: String, group: String, dead: String) -> DeadLetters
         ensures desk { desk_of result ≡ record { waiting = []; added = false } }
         ensures names { names_of result ≡ (string_bytes key, string_bytes group, string_bytes dead) }
@@ -130,8 +131,8 @@ impl DeadLetters {
         Ok(())
     }
 
-    /// Appends the bytes of the next command: the XADD of the first letter, or, if it was added, the XACK of its entry.
-    /// It appends nothing if no entry is queued. An `Err` appends nothing.
+    /// Appends the bytes of the next command: XADD of the first letter, or XACK of its entry after the letter
+    /// was added. Appends nothing if no entry is queued. An `Err` appends nothing.
     pub fn request(&mut self, alloc: Global, out: &mut Vec<u8>) -> Result<LetterAsked, WriteError>
         ensures bytes { OnOk result (out.new.items ≡ out.old.items
             ++ letter_bytes (names_of self.old) (desk_of self.old)) }
@@ -162,8 +163,8 @@ impl DeadLetters {
         Ok(asked)
     }
 
-    /// Takes the reply to the command that was requested last. After the id of a letter its entry is acknowledged next;
-    /// after the number of acknowledged entries the next letter follows.
+    /// Takes the reply to the command that was requested last. After the reply to XADD, XACK of the entry is
+    /// next. After the reply to XACK, the next letter is.
     pub fn answered(&mut self, reply: Reply) -> Result<(), LetterError>
         ensures ok { OnOk result ((serves self.old.asked (answer reply) ≡ true)
             × (desk_of self.new ≡ after_letter self.old.asked (desk_of self.old))) }

@@ -26,9 +26,9 @@ impl Worker {
     /// Makes one round, or two in one round trip: if everything done is acknowledged, the next command is sent in the
     /// same write as `XACK`, and both replies are taken.
     ///
-    /// It does the same as two calls of `round`. If the first reply is an error, the second is discarded, and the
-    /// entries in it stay pending; if the second is not received, the error is `Receive`. After an `Err` the worker
-    /// reads its own pending entries again, unless it is `Request`: then nothing was sent.
+    /// The effect is that of two calls of `round`. If the first reply is an error, the second is discarded, and
+    /// its entries stay pending. If the second reply is not received, the error is `Receive`. After an `Err`
+    /// the worker reads its own pending entries again. It does not after `Request`, since nothing was sent.
     pub fn round_pipelined<H: Handler, R: Read + Drop, W: Write + Drop>(
         &mut self,
         alloc: Global,
@@ -85,8 +85,8 @@ impl Worker {
         }
     }
 
-    /// Requests the next command, and the one after it if the first acknowledges everything done, and sends both.
-    /// Returns what the second one is.
+    /// Requests the next command, and also the one after it if the first acknowledges everything done. Sends
+    /// them in one write. Returns which the second command is.
     fn send_both<H: Handler, R: Read + Drop, W: Write + Drop>(
         &mut self,
         alloc: Global,

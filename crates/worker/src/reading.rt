@@ -13,7 +13,7 @@ use redis_resp::{PairList, Value, from_redis_value};
 use std::alloc::{AllocError, Global};
 use stream_in_place::{EntriesRef, SentClaim, SentRow, StreamsRef};
 
-/// The entries of the only stream in a reply to XREADGROUP.
+/// Returns the entries of the only stream in a reply to XREADGROUP.
 pub fn read_entries(alloc: Global, key: &str, value: Value) -> Result<Vec<SentRow>, WorkerError>
     ensures ok { IfOk result (λ es. entries_read key.now (tree value) ≡ Some (sent_all es)) }
     ensures err { IfErr result (NotRead key.now (tree value)) }
@@ -25,7 +25,7 @@ pub fn read_entries(alloc: Global, key: &str, value: Value) -> Result<Vec<SentRo
     }
 }
 
-/// The streams in a reply to XREADGROUP.
+/// Returns the streams in a reply to XREADGROUP.
 fn read_streams(alloc: Global, value: Value) -> Result<Vec<(String, Vec<SentRow>)>, WorkerError>
     ensures ok { IfOk result (λ r. sent_streams_reading (tree value) ≡ Some (map named r.items)) }
     ensures err { IfErr result (NoStreams (tree value)) }
@@ -48,7 +48,7 @@ fn join(
     Ok(streams)
 }
 
-/// The entries of the only stream, or an empty list if there is no stream.
+/// Returns the entries of the only stream, or an empty list if there is no stream.
 fn pick_entries(
     alloc: Global,
     key: &str,
@@ -66,7 +66,7 @@ fn pick_entries(
     }
 }
 
-/// The new entries of the only stream.
+/// Returns the new entries of the only stream.
 pub fn read_new(alloc: Global, key: &str, value: Value) -> Result<Vec<SentRow>, WorkerError>
     ensures ok { IfOk result (λ es. news_read key.now (tree value) ≡ Some (sent_all es)) }
     ensures err { IfErr result (NotNews key.now (tree value)) }
@@ -78,7 +78,7 @@ pub fn read_new(alloc: Global, key: &str, value: Value) -> Result<Vec<SentRow>, 
     }
 }
 
-/// The claim in a reply to XAUTOCLAIM.
+/// Returns the claim in a reply to XAUTOCLAIM.
 pub fn read_claim(alloc: Global, value: Value) -> Result<SentClaim, WorkerError>
     ensures ok { IfOk result (λ c. claim_read (tree value) ≡ Some (claim_of c)) }
     ensures err { IfErr result (NotClaimed [] (tree value)) }
@@ -90,7 +90,7 @@ pub fn read_claim(alloc: Global, value: Value) -> Result<SentClaim, WorkerError>
     }
 }
 
-/// The id of the first entry with nil in place of its fields.
+/// Returns the id of the first entry with nil in place of its fields.
 fn find_nil_id(entries: &[SentRow]) -> Result<Option<String>, AllocError>
     ensures { IfOk result (λ id. option_map string_bytes id ≡ first_nil (map sent_of entries.now)) }
 {
@@ -102,7 +102,7 @@ fn find_nil_id(entries: &[SentRow]) -> Result<Option<String>, AllocError>
     Ok(None)
 }
 
-/// The id of the first borrowed entry with nil in place of its fields.
+/// Returns the id of the first borrowed entry with nil in place of its fields.
 pub fn nil_id_in_place<'a>(entries: EntriesRef<'a>) -> Option<&'a str>
     ensures { option_map (λ id. id.now) result ≡ first_nil entries.entry }
 {
@@ -114,7 +114,7 @@ pub fn nil_id_in_place<'a>(entries: EntriesRef<'a>) -> Option<&'a str>
     None
 }
 
-/// The id of the first borrowed entry with nil in place of its fields, if there are entries.
+/// Returns the id of the first borrowed entry with nil in place of its fields, if there are entries.
 pub fn new_nil_id<'a>(entries: &Option<EntriesRef<'a>>) -> Option<&'a str>
     ensures { option_map (λ id. id.now) result ≡ first_nil (entries_sent entries.now) }
 {
@@ -124,7 +124,7 @@ pub fn new_nil_id<'a>(entries: &Option<EntriesRef<'a>>) -> Option<&'a str>
     }
 }
 
-/// The borrowed entries of the only stream; `None` if there is no stream.
+/// Returns the borrowed entries of the only stream, or `None` if there is no stream.
 pub fn only_in_place<'a>(key: &str, mut streams: StreamsRef<'a>) -> Option<Option<EntriesRef<'a>>>
     ensures { option_map entries_sent result ≡ only_stream key.now streams.entry }
 {

@@ -20,13 +20,13 @@ use Rattle.worker.specs.declared.confirm.error.RoundError.{RoundError}
 use Rattle.worker.specs.declared.confirm.error.RoundError.TheVariants as ends
 
 module _ {R : Type 0} (with_verdict : R → List ℕ × Pairs → Verdict → R) (settings : Settings) where
-  -- the worker took this reply to its command
+  -- the worker took the confirmed reply `a` to its command
   abbrev pub TakesConfirmed : wire.Answer → Standing R → Standing R → Asked → Progress → Type 0
   TakesConfirmed a y x question p = (question ≡ y.asked)
       × Went with_verdict settings y.asked a y.machine x.machine y.history x.history p
       × (x.group ≡ group_after settings y.group y.asked a) × (x.asked ≡ Nothing)
 
-  -- the reply is an error to it, which is returned, and the worker begins again
+  -- the reply `a` is an error to the worker. The error is returned, and the worker begins again
   abbrev pub TakesNot : wire.Answer → Standing R → Standing R → RunError → Type 0
   TakesNot a y x (causes.Answer e) = (z : Standing R)
       × Failed with_verdict settings y.asked a y.machine z.machine y.history z.history e.error
@@ -38,20 +38,21 @@ module _ {R : Type 0} (with_verdict : R → List ℕ × Pairs → Verdict → R)
 
 module _ {R : Type 0} (with_verdict : R → List ℕ × Pairs → Verdict → R) (with_commit : R → R) (settings : Settings)
     (wait : Wait) (old new : Link) (w x : Standing R) where
-  -- one round was made, and replicas have its command
+  -- one round was made, and enough replicas have its command
   pub record IsConfirmedRound (question : Asked) (p : Progress) : Type 0 where
     pub link : Link
     pub turned : Turned with_verdict with_commit settings old link w x question p
     pub confirmed : IsConfirmed wait link new
 
-  -- one round failed, though replicas have its command
+  -- one round failed, though enough replicas have its command
   pub record IsConfirmedFailure (e : RunError) : Type 0 where
     pub link : Link
     pub fails : Fails with_verdict with_commit settings old link w x e
     pub confirmed : IsConfirmed wait link new
 
-  -- it sent a command, and received this reply, which is discarded, since it is not known that replicas have the
-  -- command. Earlier work stays, the handler receives nothing, and the worker begins again
+  -- the worker sent its command and received a reply, but it is not known that enough replicas have the
+  -- command. The reply is discarded and the handler receives nothing. Earlier work stays, and the worker begins
+  -- again
   pub record IsUnconfirmedRound (e : ConfirmError) : Type 0 where
     pub link : Link
     pub standing : Standing R
@@ -60,7 +61,8 @@ module _ {R : Type 0} (with_verdict : R → List ℕ × Pairs → Verdict → R)
     pub unconfirmed : IsUnconfirmed wait link new e
     pub stands : x ≡ record standing { machine = begins_again standing.machine }
 
-  -- the round had no reply; or one that is an error to the worker, or that is not confirmed
+  -- why a confirmed round failed. `Run`: no reply was received, or the reply is an error to the worker.
+  -- `Unconfirmed`: the reply is not confirmed
   abbrev pub FailsConfirmed : RoundError → Type 0
   FailsConfirmed (ends.Run e) = FailsUnanswered with_commit settings old new w x e ⊎ IsConfirmedFailure e
   FailsConfirmed (ends.Unconfirmed e) = IsUnconfirmedRound e

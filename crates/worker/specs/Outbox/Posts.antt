@@ -13,17 +13,18 @@ use Rattle.worker.specs.declared.outbox.error.PostError.{PostError}
 use Rattle.worker.specs.declared.outbox.error.PostError.TheVariants as causes
 use Rattle.worker.specs.Outbox.Sent.{SendsAll, SendsSome}
 
--- the history of the work, the commands without a reply, and those that had none at a commit
+-- the history of a handler with an outbox: the history of its work, the commands without a reply, and the
+-- commands that had no reply at a commit
 pub record Posts (H : Type 0) : Type 0 where
   pub work : H
   pub unsent : List (List ℕ)
   pub early : List (List ℕ)
 
--- an outbox in which these have no reply: nothing was committed early
+-- the history of a handler whose outbox has `commands`. Nothing was committed early
 abbrev pub posts_by : {H : Type 0} → H → List (List ℕ) → Posts H
 posts_by h commands = record { work = h; unsent = commands; early = [] }
 
--- these commands if the entry is done, and else none
+-- `commands` if the entry is done, and else none
 abbrev pub if_done : Verdict → List (List ℕ) → List (List ℕ)
 if_done done commands = commands
 if_done left_pending commands = []
@@ -31,7 +32,7 @@ if_done stop commands = []
 
 module _ {H : Type 0} (with_verdict : H → List ℕ × Pairs → Verdict → H)
     (posts : H → List ℕ × Pairs → Verdict → List (List ℕ)) where
-  -- with the commands of one more entry
+  -- the history after one more entry, with its commands in the outbox
   abbrev pub posted_too : Posts H → List ℕ × Pairs → Verdict → Posts H
   posted_too p e v = record {
     work = with_verdict p.work e v;
@@ -39,7 +40,7 @@ module _ {H : Type 0} (with_verdict : H → List ℕ × Pairs → Verdict → H)
     early = p.early;
   }
 
--- with one more commit: the commands without a reply were early
+-- the history after one more commit. The commands that have no reply then are added to `early`
 abbrev pub committed_after : {H : Type 0} → (H → H) → Posts H → Posts H
 committed_after with_commit p = record {
   work = with_commit p.work;
@@ -47,7 +48,7 @@ committed_after with_commit p = record {
   early = p.early ++ p.unsent;
 }
 
--- this state, with an empty outbox
+-- the state `w`, but with an empty outbox
 abbrev pub with_all_sent : {H : Type 0} → Standing (Posts H) → Standing (Posts H)
 with_all_sent w = record w { history = record (w.history) { unsent = [] } }
 
@@ -61,7 +62,7 @@ module _ {H : Type 0} (with_verdict : Posts H → List ℕ × Pairs → Verdict 
     pub sends : SendsAll after.history.unsent between new
     pub stands : x ≡ with_all_sent after
 
-  -- a round failed; or it was made, and not every command in the outbox got its reply
+  -- a round failed; or the round was made, but not every command in the outbox got its reply
   abbrev pub FailsPosting : Link → Link → Standing (Posts H) → Standing (Posts H) → PostError → Type 0
   FailsPosting old new w x (causes.Round e) = Fails with_verdict with_commit settings old new w x e
   FailsPosting old new w x (causes.Outbox e) = (m : Link) × (u : Standing (Posts H)) × (q : Asked) × (p : Progress)

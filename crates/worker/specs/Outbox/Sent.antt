@@ -14,34 +14,35 @@ use Rattle.worker.specs.declared.outbox.outbox.Outbox.{Outbox}
 abbrev pub unsent_of : Outbox → List (List ℕ)
 unsent_of o = map (λ c. c.items) o.commands.items
 
--- one after the other, as they are sent
+-- the bytes of the commands in order, as they are sent
 abbrev pub all_bytes : List (List ℕ) → List ℕ
 all_bytes commands = flat_map (λ c. c) commands
 
--- the server executed the command: its reply is not an error
+-- whether the server executed the command: its reply is not an error
 abbrev pub takes : Answer → Bool
 takes (value t) = true
 takes (refused text) = false
 takes (group kind members) = false
 takes (pushed kind payload) = false
 
--- this number of replies were received, one after the other, and none is an error
+-- this number of replies were received in order, and none is an error
 abbrev pub Replied : ℕ → Link → Link → Type 0
 Replied zero old new = new ≡ old
 Replied (suc n) old new = (m : Link) × (a : Answer) × Replied n old m × ReceivesAnswer m new a × (takes a ≡ true)
 
--- no reply was received, or one that is an error
+-- no reply was received, or the next reply is an error
 abbrev pub IsNotTaken : Link → Link → Type 0
 IsNotTaken old new = AwaitsAnswer old new ⊎ ((a : Answer) × ReceivesAnswer old new a × (takes a ≡ false))
 
--- these commands were sent in one write, and then a reply to each was received, none of them an error; or there was no
--- command
+-- `commands` were sent in one write. A reply to each was received, and none is an error. If there is no
+-- command, nothing was sent
 pub record SendsAll (commands : List (List ℕ)) (old new : Link) : Type 0 where
   pub between : Link
   pub sends : Sends old between (all_bytes commands)
   pub replied : Replied (length commands) between new
 
--- they were all sent, and this number of replies were received, and then none or an error
+-- `commands` were all sent, and the first `count` got replies. The next got none, or its reply is an error.
+-- `left` are the commands without a reply
 pub record IsRepliedTo (commands left : List (List ℕ)) (old new : Link) : Type 0 where
   pub between : Link
   pub count : ℕ
@@ -52,25 +53,25 @@ pub record IsRepliedTo (commands left : List (List ℕ)) (old new : Link) : Type
   pub not_taken : IsNotTaken last new
   pub left_is : left ≡ drop count commands
 
--- nothing was sent, or a prefix of their bytes, and all of them are left; or the first ones got replies, and the others
--- are left
+-- not all commands got a reply. Nothing or a prefix of their bytes was sent, and all commands are left; or all
+-- were sent, and the first ones got replies
 abbrev pub SendsSome : List (List ℕ) → List (List ℕ) → Link → Link → Type 0
 SendsSome commands left old new =
     ((left ≡ commands) × ((new ≡ old) ⊎ SendsFront old new (all_bytes commands))) ⊎ IsRepliedTo commands left old new
 
--- why no reply was taken: none was received, and the error is the connection's; or the reply is this error of the
--- server, or an aggregate with an error in it
+-- why a command got no reply, by the error. `Connection`: no reply was received. `Refused`: the server returned
+-- this error. `NotAnAnswer`: the reply is an aggregate with an error in it
 abbrev pub IsNotTakenBy : OutboxError → Link → Link → Type 0
 IsNotTakenBy (causes.Connection e) old new = AwaitsAnswer old new × IsEnded new e × IsFaulty new.held e × IsRetried e
 IsNotTakenBy (causes.Refused e) old new = ReceivesAnswer old new (refused e.text.items)
 IsNotTakenBy causes.NotAnAnswer old new = (k : GroupKind) × (xs : AnswerList) × ReceivesAnswer old new (group k xs)
 IsNotTakenBy causes.Memory old new = ⊥
 
--- they were all sent, and this is why the first that is left got no reply
+-- all commands were sent, and `e` says why the first command of `left` got no reply
 abbrev pub IsRepliedToBy : OutboxError → List (List ℕ) → List (List ℕ) → Link → Link → Type 0
 IsRepliedToBy e commands left old new = (r : IsRepliedTo commands left old new) × IsNotTakenBy e r.last new
 
--- why some commands are left. If memory ran out, nothing was sent
+-- `e` says why the commands `left` got no reply. If memory ran out, nothing was sent
 abbrev pub SendsSomeBy : OutboxError → List (List ℕ) → List (List ℕ) → Link → Link → Type 0
 SendsSomeBy causes.Memory commands left old new = (left ≡ commands) × (new ≡ old)
 SendsSomeBy (causes.Connection e) commands left old new =

@@ -27,7 +27,7 @@ const PAGE: usize = 100;
 /// The most pages of pending entries that one search reads.
 const PAGES: usize = 1000;
 
-/// The reply to XCLAIM: the ids, each with its fields in order; or nil for a deleted entry.
+/// The reply to XCLAIM: each entry's id with its fields in order, or nil for a deleted entry.
 type Claimed = Vec<Option<(String, Vec<RawBytes>)>>;
 
 /// A row of the reply to XPENDING: the id, the consumer, the idle time, and the delivery count. A consumer's name may
@@ -37,11 +37,11 @@ type Row = (String, Value, Value, usize);
 /// A pending entry.
 #[derive(Drop)]
 pub struct Waiting {
-    /// Its id.
+    /// The id of the entry.
     id: String,
-    /// Its delivery count.
+    /// The delivery count of the entry.
     deliveries: usize,
-    /// Why it is given up; empty if its delivery count is the reason.
+    /// Why the entry is given up. Empty if its delivery count is the reason.
     reason: Vec<u8>,
 }
 
@@ -161,7 +161,8 @@ impl DeadLetterSearch {
         }
     }
 
-    /// The entry with this id, to be given up for this reason; `None` if it is not pending for this consumer.
+    /// Returns the entry with this id, with the reason why it is given up. Returns `None` if the entry is not
+    /// pending for this consumer.
     fn find_own<R: Read + Drop, W: Write + Drop>(
         &self,
         alloc: Global,
@@ -297,7 +298,7 @@ impl DeadLetterSearch {
         Ok(next)
     }
 
-    /// The pending entries from this id on; an empty list if there is no group.
+    /// Returns the pending entries from this id on, or an empty list if there is no group.
     fn page<R: Read + Drop, W: Write + Drop>(
         &self,
         alloc: Global,
@@ -340,7 +341,7 @@ impl DeadLetterSearch {
         deliver(alloc, connection, &mut desk, &mut self.letters)
     }
 
-    /// An empty queue of letters.
+    /// Returns an empty queue of letters.
     fn make_queue(&self, alloc: Global) -> Result<DeadLetters, AllocError>
         ensures names { IfOk result (λ d. names_of d ≡ letter_names self.now) }
         ensures waits { IfOk result (λ d. desk_of d ≡ none_waits) }
@@ -401,7 +402,8 @@ impl DeadLetterSearch {
     }
 }
 
-/// The entry of a page with just this entry, to be given up for this reason; `None` if the page is another one.
+/// Returns the entry of the page, with the reason why it is given up. Returns `None` unless the page is exactly
+/// the entry with this id.
 fn pick_own(
     alloc: Global,
     page: &[Waiting],
@@ -438,7 +440,7 @@ fn check_settings(key: &str, to: &GiveUp) -> Result<(), SearchSettingsError>
     Ok(())
 }
 
-/// How many reads were made, if this was the last command.
+/// Returns the number of reads since the last search, after this command.
 fn count_reads(reads: usize, asked: Asked) -> usize
     ensures { IsCounted reads asked result }
 {
@@ -449,7 +451,7 @@ fn count_reads(reads: usize, asked: Asked) -> usize
     }
 }
 
-/// Sends XPENDING; the list is empty if there is no group.
+/// Sends XPENDING and returns the pending entries. The list is empty if there is no group.
 fn ask_page<T: ToRedisArgs, R: Read + Drop, W: Write + Drop>(
     alloc: Global,
     connection: &mut Connection<R, W>,
@@ -469,7 +471,7 @@ fn ask_page<T: ToRedisArgs, R: Read + Drop, W: Write + Drop>(
     }
 }
 
-/// The entries of these rows, in order.
+/// Returns the pending entries of these rows, in order.
 fn collect_waiting(alloc: Global, rows: Vec<Row>) -> Result<Vec<Waiting>, AllocError>
     ensures { IfOk result (λ all. map waiting_of all.items ≡ map row_of rows.items) }
 {
@@ -485,7 +487,8 @@ fn collect_waiting(alloc: Global, rows: Vec<Row>) -> Result<Vec<Waiting>, AllocE
     Ok(all)
 }
 
-/// Gives up an entry that was claimed; not if another consumer has it, or it was deleted.
+/// Queues the letter of a claimed entry. Queues nothing if another consumer has the entry, or if it was
+/// deleted.
 fn post(
     alloc: Global,
     desk: &mut DeadLetters,
@@ -507,7 +510,7 @@ fn post(
     post_fields(alloc, desk, entry, texts)
 }
 
-/// The only row; `None` if there is not exactly one.
+/// Returns the only row, or `None` if there is not exactly one.
 fn take_only_row(rows: &[Option<(String, Vec<RawBytes>)>]) -> Option<&(String, Vec<RawBytes>)>
     ensures { MatchOption result ((e : Entry) → AreJust (rows_of rows.now) e → e.1 ≡ [])
         (λ row. rows.now ≡ Some row.now ∷ []) }
@@ -518,7 +521,8 @@ fn take_only_row(rows: &[Option<(String, Vec<RawBytes>)>]) -> Option<&(String, V
     }
 }
 
-/// Gives up an entry with these names and values; there are none if it was deleted.
+/// Queues the letter of an entry with these names and values. Queues nothing if there are none, as for a
+/// deleted entry.
 fn post_fields(
     alloc: Global,
     desk: &mut DeadLetters,
@@ -552,7 +556,8 @@ fn keep_too_often(mut page: Vec<Waiting>, deliveries: usize) -> Vec<Waiting>
     page
 }
 
-/// The start of the next page, just after the last id; `None` if this page is not full.
+/// Returns the start of the next page, which is just after the last id. Returns `None` if this page is not
+/// full.
 fn find_next_start(alloc: Global, page: &[Waiting]) -> Result<Option<String>, AllocError>
     ensures { IfOk result (λ next. IsNext page.now (option_map string_bytes next)) }
 {
@@ -569,7 +574,7 @@ fn find_next_start(alloc: Global, page: &[Waiting]) -> Result<Option<String>, Al
     }
 }
 
-/// Pairs up these texts, which are names and values by turns; `None` if the last name has no value.
+/// Pairs up names and values that follow each other by turns. Returns `None` if the last name has no value.
 fn pair_up<'a>(
     alloc: Global,
     texts: &'a [RawBytes],
@@ -619,7 +624,7 @@ fn deliver<R: Read + Drop, W: Write + Drop>(
     Err(SearchError::LastLetter)
 }
 
-/// Why a command was not written.
+/// Returns the error for a command that was not written.
 fn convert_write_error(error: WriteError) -> SearchError {
     ConnectionError::from(error).into()
 }

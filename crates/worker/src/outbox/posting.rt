@@ -24,10 +24,10 @@ pub trait Work {
     /// The history after one more commit.
     ghost with_commit: { History → History };
 
-    /// The history so far.
+    /// Returns the history so far.
     ghost history: { Self → History };
 
-    /// What is known of a commit that failed: of the work before it, and after it.
+    /// The relation between the work before a failed commit and the work after it.
     ghost commit_failed: { Self → Self → Type 0 } = { λ _ _. Unit {0} };
 
     /// The commands that are sent for an entry with this verdict, each as its bytes.
