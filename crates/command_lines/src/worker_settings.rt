@@ -114,7 +114,7 @@ pub fn give_up_of(
         }
     };
     if *stream == word_of(matches, "KEY") {
-        let reason = "STREAM is another one than KEY";
+        let reason = "STREAM must not be KEY";
         return Err(refused_value(alloc, command, stream, DEAD, reason));
     }
     let stream = String::from_str(alloc, stream)?;
