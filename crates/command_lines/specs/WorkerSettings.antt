@@ -1,4 +1,4 @@
--- The settings of a worker in a command line, by the arguments that clap found in it.
+-- The settings of a worker, in terms of the arguments that clap found.
 use Rattle.std.specs.Prelude.{◌≡◌, ◌≢◌, ◌<◌, ◌-◌, ◌^◌, ◌∷◌, [], ℕ, Bool, IfSome, List, None, Option, Some, String, codes, false, option_map}
 use Rattle.std.specs.Prelude.{string_bytes, true, unwrap_or}
 use Rattle.std.specs.declared.alloc.Global.{Global}
@@ -11,15 +11,15 @@ use Rattle.worker.specs.declared.state.MakeGroup.{MakeGroup}
 use Rattle.worker.specs.declared.state.MakeGroup.TheVariants.{FromNow, FromTheFirst, Never}
 use Rattle.worker.specs.declared.state.Settings.{Settings}
 
--- the value of an argument in a line, or the empty text
+-- the value of the argument `id`, or the empty text if it is absent
 abbrev pub word_in : Found → List ℕ → List ℕ
 word_in found id = unwrap_or (first_value found id) []
 
--- the text is the value of an argument in a line
+-- `text` is the value of the argument `id`, or empty if it is absent
 abbrev pub IsWord : Found → List ℕ → String Global → Type 0
 IsWord found id text = string_bytes text ≡ word_in found id
 
--- the number is that of an option, in the range of the option
+-- if the text of the option `id` is a number from `least` to `most`, `number` is the value of this text
 abbrev pub IsNumber : Found → List ℕ → ℕ → ℕ → ℕ → Type 0
 IsNumber found id least most number = (text : List ℕ) → one_text found id ≡ Some text
     → IsNumberIn least most text → number ≡ number_of text
@@ -28,14 +28,15 @@ IsNumber found id least most number = (text : List ℕ) → one_text found id �
 abbrev pub largest : ℕ
 largest = 2 ^ 64 - 1
 
--- `--from 0` creates a group with all entries, `--from $` with those from then on, and no other value creates any
+-- `--from 0` creates a group with all entries. `--from $` creates a group with the entries added from then on.
+-- Any other value creates no group.
 pub record MakesGroup (word : List ℕ) (makes : MakeGroup) : Type 0 where
   pub first : word ≡ codes "0" → makes ≡ FromTheFirst
   pub now : word ≡ codes "$" → makes ≡ FromNow
   pub never : word ≢ codes "0" → word ≢ codes "$" → makes ≡ Never
 
--- the worker has the names KEY, GROUP and CONSUMER, and the numbers of `--block`, `--idle` and `--every`; the option
--- `count` gives the largest number of entries of one request
+-- `s` has the names KEY, GROUP and CONSUMER, the numbers of `--block`, `--idle` and `--every`, and the group of
+-- `--from`. The option `count` gives the largest number of entries that one command requests.
 pub record AreSettings (count : List ℕ) (least most : ℕ) (found : Found) (s : Settings) : Type 0 where
   pub key : IsWord found (codes "KEY") s.key
   pub group : IsWord found (codes "GROUP") s.group
@@ -46,30 +47,31 @@ pub record AreSettings (count : List ℕ) (least most : ℕ) (found : Found) (s 
   pub every : IsNumber found (codes "every") 0 largest s.every
   pub make_group : MakesGroup (word_in found (codes "from")) s.make_group
 
--- the number of deliveries and the stream
+-- the number of deliveries, and the name of the stream
 abbrev pub parts_of : GiveUp → ℕ × List ℕ
 parts_of to = (to.deliveries, string_bytes to.stream)
 
--- `--dead TIMES STREAM`: entries delivered at least TIMES times, 1 or more, are moved to STREAM, which is not KEY; without
--- it no entry is moved
+-- `to` is the value of `--dead TIMES STREAM`: entries delivered at least TIMES times are moved to STREAM. TIMES
+-- is at least 1, and STREAM is not KEY. Without the option no entry is moved.
 pub record GivesUp (found : Found) (to : Option GiveUp) : Type 0 where
   pub given : (times stream : List ℕ) → option_map raw_values (matched_of found (codes "dead")) ≡ Some (times ∷ stream ∷ [])
       → option_map parts_of to ≡ Some (number_of times, stream)
   pub left_out : matched_of found (codes "dead") ≡ None → to ≡ None
   pub some : IfSome to (λ g. (0 < g.deliveries) × (string_bytes g.stream ≢ word_in found (codes "KEY")))
 
--- the number of replicas, and of milliseconds
+-- the number of replicas, and the number of milliseconds
 abbrev pub wait_parts : Wait → ℕ × ℕ
 wait_parts wait = (wait.replicas, wait.milliseconds)
 
--- `--wait REPLICAS MS`: waits for REPLICAS replicas, at most MS milliseconds
+-- `wait` is the value of `--wait REPLICAS MS`: the worker waits at most MS milliseconds for REPLICAS replicas.
+-- Without the option the worker does not wait.
 pub record Waits (found : Found) (wait : Option Wait) : Type 0 where
   pub given : (replicas milliseconds : List ℕ)
       → option_map raw_values (matched_of found (codes "wait")) ≡ Some (replicas ∷ milliseconds ∷ [])
       → option_map wait_parts wait ≡ Some (number_of replicas, number_of milliseconds)
   pub left_out : matched_of found (codes "wait") ≡ None → wait ≡ None
 
--- whether an option without a value is present
+-- `is_there` is whether the option `id` is present. The option has no value.
 pub record IsFlag (found : Found) (id : List ℕ) (is_there : Bool) : Type 0 where
   pub given : one_text found id ≡ Some (codes "true") → is_there ≡ true
   pub other : one_text found id ≡ Some (codes "false") → is_there ≡ false

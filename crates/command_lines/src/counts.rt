@@ -1,10 +1,10 @@
-//! What a drain counts, and shows on standard error.
+//! What a drain counts and shows on standard error.
 ghost use Rattle.std.specs.Prelude.{◌≡◌, ◌+◌, min, None, Some};
 ghost use Rattle.command_lines.specs.Counts.{counted, counts_text};
 
 use std::fmt;
 
-/// The counts of a drain, which are shown at its end.
+/// The counts of a drain, shown at its end.
 #[derive(Clone, Copy)]
 pub struct Counts {
     /// How many entries were drained.
@@ -26,7 +26,7 @@ impl Counts {
         }
     }
 
-    /// Counts one more batch, after which this many entries were drained.
+    /// Counts one more batch. `entries` is the total number of entries drained after that batch.
     pub fn count(&mut self, entries: u64)
         ensures { self.new ≡ record self.old { entries = entries; batches = min (self.old.batches + 1) 18446744073709551615 } }
     {

@@ -1,8 +1,8 @@
-//! The common parts of the command lines of the programs, over the crate `clap`: their options as
-//! data, how arguments are parsed, and how errors in a line are reported.
+//! The parts that the command lines of the programs have in common, built on the crate `clap`. They describe
+//! the options, parse the arguments, and report errors in the arguments.
 //!
-//! The standard output of these programs is the connection to the server. So help, the version
-//! and errors go to standard error.
+//! The standard output of these programs is the connection to the server. Therefore the help, the version and
+//! errors go to standard error.
 #![tactic(auto)]
 
 ghost use Rattle.std.specs.Prelude.{◌≡◌, ◌≢◌, ◌≤◌, ◌<◌, ◌∷◌, ◌⊎◌, [], ℕ, List, IfErr, IfOk, IfSome, None, Some};
@@ -35,14 +35,15 @@ pub use worker_settings::{confirmation_of, dead, give_up_of, settings_of};
 /// The version of the programs, which `--version` shows.
 pub const VERSION: &str = "0.9.0";
 
-/// The build of the program, after a mark. A release replaces the text after the mark in the built program by one of
-/// the same length; spaces at its end are not shown.
+/// The build of the program, after a mark. A release replaces the text after the mark in the built program by a
+/// text of the same length. Spaces at the end are not shown.
 static BUILD: &str = "@jagyerti-build@unproved, built from a checkout             ";
 
 /// The length of the mark.
 const MARK: usize = 16;
 
-/// The command of a program. Its arguments exclude the program's name. A repeated option overrides the earlier one.
+/// Returns the command of a program. Its arguments exclude the program's name. A repeated option overrides the
+/// earlier one.
 pub fn command<'a>(alloc: Global, program: &'a str, about: &'a str) -> Command<'a>
     ensures name { (fields_of result).name ≡ program.entry }
     ensures words { (fields_of result).no_binary_name ≡ true }
@@ -61,7 +62,7 @@ const CONNECTION: &str =
     "Standard input and standard output are the connection with the server, so this text and each \
      error\ngo to standard error. Names that begin with a hyphen come last, after the word --.";
 
-/// Parses these arguments with the command. Fewer than `least` of them are an error.
+/// Parses the arguments. Fewer than `least` arguments are an error.
 pub fn matches_of<'a>(
     alloc: Global,
     command: &mut Command<'a>,
@@ -78,7 +79,7 @@ pub fn matches_of<'a>(
     Ok(matches)
 }
 
-/// The error of a line that the program itself refuses for this reason.
+/// Returns the error for arguments that the program itself refuses, with the reason.
 pub fn refused<D: Display>(alloc: Global, command: &mut Command<'_>, reason: &D) -> Error
     ensures { (kind_of result ≡ ErrorKind.ValueValidation) ⊎ (kind_of result ≡ ErrorKind.OutOfMemory) }
 {
@@ -99,7 +100,7 @@ fn refuse_value<D: Display>(
     command.error(ErrorKind::ValueValidation, &text)
 }
 
-/// The error of a line with a value of this option that the program itself refuses for this reason.
+/// Returns the error for a value of an option that the program itself refuses, with the reason.
 pub fn refused_value(
     alloc: Global,
     command: &mut Command<'_>,
@@ -114,8 +115,8 @@ pub fn refused_value(
     refused(alloc, command, &text)
 }
 
-/// Writes the help, the version or the error of a line to standard error. Returns the status:
-/// 0 for help and the version, 1 if memory ran out, and 2 for an invalid line.
+/// Writes the help, the version or the error to standard error. Returns the exit status: 0 for the help and the
+/// version, 1 if memory ran out, and 2 for invalid arguments.
 pub fn tell<R: Eprint>(alloc: Global, rt: &R, error: &Error) -> io::Result<ExitCode>
     ensures asked { IfOk result (λ code. (kind_of error.now ≡ ErrorKind.DisplayHelp)
         ⊎ (kind_of error.now ≡ ErrorKind.DisplayVersion) → exit_status code ≡ 0) }
@@ -131,8 +132,8 @@ pub fn tell<R: Eprint>(alloc: Global, rt: &R, error: &Error) -> io::Result<ExitC
     Ok(ExitCode::from(status_of(error)))
 }
 
-/// Writes the help, the version or the error of these words to standard error. Returns the status: 0 only if a word asks
-/// for the help or the version, and else 1 or 2 as `tell`.
+/// Writes the help, the version or the error for these arguments to standard error. Returns the exit status 0
+/// only if an argument asks for the help or the version. Otherwise the status is 1 or 2, as for `tell`.
 pub fn tell_line<R: Eprint>(
     alloc: Global,
     rt: &R,
@@ -151,7 +152,7 @@ pub fn tell_line<R: Eprint>(
     }
 }
 
-/// The exit status if the words are wrong.
+/// The exit status for invalid arguments.
 const WRONG: u8 = 2;
 
 fn status_of(error: &Error) -> u8
@@ -168,7 +169,8 @@ fn status_of(error: &Error) -> u8
     }
 }
 
-/// What a user can do about an error of the server with this code, such as `NOGROUP`; `None` if nothing is known.
+/// Returns advice for the user about a server error with this code, such as `NOGROUP`. Returns `None` if there
+/// is no advice.
 pub fn remedy_of(code: &str) -> Option<&'static str>
     ensures group { code.now ≡ codes "NOGROUP" → option_map (λ text. text.now) result ≡ Some NO_GROUP.now }
     ensures moved { (code.now ≡ codes "MOVED") ⊎ (code.now ≡ codes "ASK")
@@ -189,7 +191,8 @@ const NO_GROUP: &str =
 const MOVED: &str =
     "This is a node of a cluster, and another node has the key: start 'jagyerti' with --cluster.";
 
-/// The text of an error for display: a control character of an argument, which could control a terminal, becomes `?`.
+/// Returns the text of an error for display. Each control character of an argument becomes `?`, since it could
+/// control a terminal.
 fn shown(alloc: Global, error: &Error) -> Result<String, AllocError> {
     let text = format!(in alloc; "{error}")?;
     if error.kind() == ErrorKind::DisplayVersion {
@@ -203,8 +206,8 @@ fn shown(alloc: Global, error: &Error) -> Result<String, AllocError> {
     Ok(shown)
 }
 
-/// The name, the version and the build of a program. The spaces are searched for in a copy that begins with
-/// `version`, so that a compiler cannot compute the text of `BUILD` in advance.
+/// Returns the name, the version and the build of a program. The trailing spaces are searched for in a copy
+/// that begins with `version`, so that a compiler cannot compute the text of `BUILD` in advance.
 fn with_build(alloc: Global, version: &str) -> Result<String, AllocError> {
     let mut text = String::from_str(alloc, version)?;
     text.push_str(" (")?;
@@ -216,7 +219,7 @@ fn with_build(alloc: Global, version: &str) -> Result<String, AllocError> {
     Ok(shown)
 }
 
-/// The value of the argument `id`; the empty text if it is absent.
+/// Returns the value of the argument `id`, or the empty text if it is absent.
 pub fn word_of<'a>(matches: &ArgMatches<'a>, id: &str) -> &'a str
     ensures some { (text : List ℕ) → first_value (found_of matches.now) id.now ≡ Some text
         → result.now ≡ text }
@@ -232,11 +235,11 @@ pub fn word_of<'a>(matches: &ArgMatches<'a>, id: &str) -> &'a str
 /// An option with a number, such as `--count 100`.
 #[derive(Clone, Copy)]
 pub struct Number {
-    /// Its name, without the hyphens.
+    /// The name of the option, without the hyphens.
     pub name: &'static str,
-    /// The name of its value, as `--help` shows it.
+    /// The name of the option's value, as `--help` shows it.
     pub value: &'static str,
-    /// Its description in `--help`.
+    /// The description of the option in `--help`.
     pub help: &'static str,
     /// The smallest number allowed.
     pub least: u64,
@@ -247,7 +250,8 @@ pub struct Number {
 }
 
 impl Number {
-    /// The option for a command. A negative number after it is taken as its value, and refused.
+    /// Returns the option for a command. A negative number after the option is parsed as its value, and
+    /// refused.
     pub fn arg<'a>(&self, alloc: Global) -> Arg<'a>
         ensures { rule_of result ≡ record (new_rule self.now.name.now) {
           long = Some self.now.name.now;
@@ -268,7 +272,7 @@ impl Number {
             .help(self.help)
     }
 
-    /// The number in a line, or the default one; it is always in the range.
+    /// Returns the parsed number, or the default one. The number is in the range of the option.
     pub fn of(&self, matches: &ArgMatches<'_>) -> Option<u64>
         ensures none { one_text (found_of matches.now) self.now.name.now ≡ None → result ≡ None }
         ensures range { IfSome result (λ n. (self.now.least ≤ n) × (n ≤ self.now.most)) }
@@ -293,7 +297,7 @@ pub const BLOCK: Number = Number {
     usual: "5000",
 };
 
-/// Entries that other consumers left pending for this number of milliseconds are claimed.
+/// The number of milliseconds after which pending entries of other consumers are claimed.
 pub const IDLE: Number = Number {
     name: "idle",
     value: "MS",
@@ -303,7 +307,7 @@ pub const IDLE: Number = Number {
     usual: "60000",
 };
 
-/// A worker claims after this number of reads of new entries.
+/// The number of reads of new entries after which a worker claims.
 pub const EVERY: Number = Number {
     name: "every",
     value: "READS",
@@ -398,7 +402,8 @@ static WAIT_VALUES: [&str; 2] = ["REPLICAS", "MS"];
 
 const WAIT: &str = "--wait <REPLICAS> <MS>";
 
-/// The option `--wait`: this number of replicas have to confirm within the milliseconds; `help` describes what.
+/// Returns the option `--wait`: this number of replicas must confirm within the milliseconds. `help` describes
+/// what they confirm.
 pub fn wait<'a>(alloc: Global, help: &'a str) -> Arg<'a>
     ensures { rule_of result ≡ record (new_rule (codes "wait")) {
       long = Some (codes "wait");
@@ -411,8 +416,8 @@ pub fn wait<'a>(alloc: Global, help: &'a str) -> Arg<'a>
     pair(alloc, "wait", WAIT_VALUES.as_slice(), help)
 }
 
-/// The numbers of `--wait`, of replicas and of milliseconds, each at least 1; `None` if it is absent. Any other is
-/// refused.
+/// Returns the numbers of `--wait`: the replicas and the milliseconds. Returns `None` if the option is absent.
+/// A number that is not at least 1 is an error.
 pub(crate) fn wait_of(
     alloc: Global,
     command: &mut Command<'_>,
@@ -434,7 +439,7 @@ pub(crate) fn wait_of(
     Ok(Some((replicas, milliseconds)))
 }
 
-/// A number of `--wait`, at least 1.
+/// Parses a number of `--wait`. A number that is not at least 1 is an error.
 fn positive(alloc: Global, command: &mut Command<'_>, word: &str) -> Result<u64, Error>
     ensures range { IfOk result (λ number. 0 < number) }
     ensures value { IfOk result (λ number. number ≡ number_of word.now) }

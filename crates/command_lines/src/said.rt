@@ -1,4 +1,4 @@
-//! Whether options are what the values of a command line say.
+//! Checks that the parsed options match the values of the command line.
 ghost use Rattle.std.specs.Prelude.{◌≡◌, ◌∷◌, [], ℕ, IfOk, IfSome, IsTrue, codes, map, option_map, string_bytes};
 ghost use Rattle.clap.specs.Words.{found_of};
 ghost use Rattle.command_lines.specs.Said.{IsNumberOf, SaysSettings, number_and_text, two_numbers};
@@ -13,7 +13,8 @@ use std::alloc::{AllocError, Global};
 use worker::Settings;
 use worker::dead_letters::GiveUp;
 
-/// Whether a line says the numbers and `--from` of these settings, if they are those of the matches.
+/// Whether `line` specifies the numbers and the `--from` value of `settings`, given that `settings` matches
+/// `matches`.
 pub fn says_settings(
     alloc: Global,
     line: &Line<'_>,
@@ -36,7 +37,7 @@ pub fn says_settings(
     Ok(true)
 }
 
-/// Whether a line and the matches have the same number, in its range.
+/// Whether the line and the matches have the same number for `option`, and that number is in its range.
 pub fn says_number(
     alloc: Global,
     line: &Line<'_>,
@@ -60,7 +61,7 @@ pub fn says_number(
     Ok(true)
 }
 
-/// Whether the last value of an option is this text, or if it has none, the usual one is.
+/// Whether the last value of `option` is `text`. If the line has no such value, `usual` is used instead.
 pub fn says_text(
     alloc: Global,
     line: &Line<'_>,
@@ -75,7 +76,8 @@ pub fn says_text(
     Ok(last_of(&values, usual) == text)
 }
 
-/// The names after KEY, GROUP and CONSUMER, if these are the first ones, and those of the settings.
+/// Returns the names after KEY, GROUP and CONSUMER.
+/// Returns `None` unless `names` begins with the key, the group and the consumer of `settings`.
 pub fn names_after<'n, 'a>(names: &'n [&'a str], settings: &Settings) -> Option<&'n [&'a str]>
     ensures { IfSome result (λ rest. map (λ name. name.now) names.now ≡ string_bytes settings.now.key
         ∷ string_bytes settings.now.group ∷ string_bytes settings.now.consumer ∷ map (λ name. name.now) rest.now) }
@@ -89,7 +91,7 @@ pub fn names_after<'n, 'a>(names: &'n [&'a str], settings: &Settings) -> Option<
     Some(rest)
 }
 
-/// Whether entries are given up as `--dead` says in a line.
+/// Whether `dead` matches the `--dead` option of the line.
 pub fn says_dead(alloc: Global, line: &Line<'_>, dead: &Option<GiveUp>) -> Result<bool, AllocError>
     ensures { IfOk result (λ says. IsTrue says → option_map parts_of dead.now
         ≡ option_map number_and_text (last_pair (said (codes "--dead") (texts_of line.now)))) }
@@ -98,7 +100,7 @@ pub fn says_dead(alloc: Global, line: &Line<'_>, dead: &Option<GiveUp>) -> Resul
     Ok(gives_up(last_pair(&values), dead))
 }
 
-/// Whether replicas confirm as `--wait` says in a line.
+/// Whether `wait` matches the `--wait` option of the line.
 pub fn says_wait(alloc: Global, line: &Line<'_>, wait: Option<Wait>) -> Result<bool, AllocError>
     ensures { IfOk result (λ says. IsTrue says → option_map wait_parts wait
         ≡ option_map two_numbers (last_pair (said (codes "--wait") (texts_of line.now)))) }
@@ -107,7 +109,7 @@ pub fn says_wait(alloc: Global, line: &Line<'_>, wait: Option<Wait>) -> Result<b
     Ok(waits(last_pair(&values), wait))
 }
 
-/// Whether entries are given up as the values say.
+/// Whether `dead` matches the values of `--dead`.
 fn gives_up(said: Option<(&str, &str)>, dead: &Option<GiveUp>) -> bool
     ensures { IsTrue result → option_map parts_of dead.now ≡ option_map number_and_text (option_map pair_of said.entry) }
 {
@@ -121,7 +123,7 @@ fn gives_up(said: Option<(&str, &str)>, dead: &Option<GiveUp>) -> bool
     }
 }
 
-/// Whether replicas confirm as the values say.
+/// Whether `wait` matches the values of `--wait`.
 fn waits(said: Option<(&str, &str)>, wait: Option<Wait>) -> bool
     ensures { IsTrue result → option_map wait_parts wait ≡ option_map two_numbers (option_map pair_of said.entry) }
 {

@@ -1,4 +1,4 @@
-//! What the words of a command line say.
+//! The options and values in the arguments of a command line.
 ghost use Rattle.std.specs.Prelude.{◌≡◌, ◌∷◌, [], List, ℕ, IfOk, length, map, option_map, string_bytes, unwrap_or};
 ghost use Rattle.command_lines.specs.Words.{asks_help, is_given, is_help, is_option, last_pair, last_said, pair_of, said, texts_of, values_in, values_then};
 
@@ -9,22 +9,23 @@ pub trait Arity {
     /// The number of values of an option.
     ghost number: { List ℕ → ℕ };
 
-    /// How many words after an option are its values.
+    /// Returns the number of arguments after an option that are its values.
     fn number_of_values(option: &str) -> usize
         ensures { result ≡ number option.now };
 }
 
-/// A command line, as its values, each with its option, in order. The option of a name is the empty text.
+/// A command line as a list of values in order, each with its option. The option of a positional argument is
+/// the empty text.
 #[derive(Drop)]
 pub struct Line<'a> {
     values: Vec<(&'a str, &'a str)>,
 }
 
 impl<'a> Line<'a> {
-    /// Reads these words of a program whose options have these numbers of values.
+    /// Parses the arguments. `A` gives the number of values of each option.
     ///
-    /// A word that begins with `--` is an option, unless it is a value. `--name=value` is an option with its value.
-    /// After the word `--` all words are names.
+    /// An argument that begins with `--` is an option, unless it is the value of an option before it.
+    /// `--name=value` is an option with its value. All arguments after `--` are positional.
     pub fn read<A: Arity>(alloc: Global, words: &'a [String]) -> Result<Line<'a>, AllocError>
         ensures { IfOk result (λ line. texts_of line ≡ values_in A.number [] 0 (map string_bytes words.now)) }
     {
@@ -43,7 +44,7 @@ impl<'a> Line<'a> {
         Ok(Line { values })
     }
 
-    /// The values of an option, in order.
+    /// Returns the values of `option`, in order.
     pub fn values_of(&self, alloc: Global, option: &str) -> Result<Vec<&'a str>, AllocError>
         ensures { IfOk result (λ values. map (λ v. v.now) values.items ≡ said option.now (texts_of self.now)) }
     {
@@ -56,7 +57,7 @@ impl<'a> Line<'a> {
         Ok(values)
     }
 
-    /// Whether an option is given.
+    /// Whether `option` is present.
     pub fn has(&self, option: &str) -> bool
         ensures { result ≡ is_given option.now (texts_of self.now) }
     {
@@ -69,14 +70,15 @@ impl<'a> Line<'a> {
     }
 }
 
-/// The option whose values the next words are, and how many of them.
+/// The option that the next arguments are values of, and the number of these values.
 #[derive(Drop)]
 struct Awaited<'a> {
     option: &'a str,
     number: usize,
 }
 
-/// The value that a word gives, if it gives one. `after` is the number of words after it.
+/// Returns the value that an argument contains, with its option. Returns `None` if the argument contains no
+/// value. `after` is the number of arguments after `word`.
 fn read_word<'a, A: Arity>(
     awaited: &mut Awaited<'a>,
     word: &'a str,
@@ -110,14 +112,14 @@ fn read_word<'a, A: Arity>(
     None
 }
 
-/// Whether a word is an option, if it is no value: it begins with two hyphens.
+/// Whether an argument that is not a value is an option: whether it begins with two hyphens.
 fn is_option(word: &str) -> bool
     ensures { result ≡ is_option word.now }
 {
     word.as_bytes().starts_with(b"--".as_slice())
 }
 
-/// The last of these values, or the usual one.
+/// Returns the last value, or `usual` if there are none.
 pub fn last_of<'a>(values: &[&'a str], usual: &'a str) -> &'a str
     ensures { result.now ≡ last_said usual.entry.now (map (λ v. v.now) values.now) }
 {
@@ -127,7 +129,7 @@ pub fn last_of<'a>(values: &[&'a str], usual: &'a str) -> &'a str
     }
 }
 
-/// The last two of these values.
+/// Returns the last two values, or `None` if there are fewer than two.
 pub fn last_pair<'a>(values: &[&'a str]) -> Option<(&'a str, &'a str)>
     ensures { option_map pair_of result ≡ last_pair (map (λ v. v.now) values.now) }
 {
@@ -137,7 +139,7 @@ pub fn last_pair<'a>(values: &[&'a str]) -> Option<(&'a str, &'a str)>
     }
 }
 
-/// Whether words ask for the help or the version.
+/// Whether any argument asks for the help or the version.
 pub fn asks_help(words: &[String]) -> bool
     ensures { result ≡ asks_help (map string_bytes words.now) }
 {
@@ -149,7 +151,8 @@ pub fn asks_help(words: &[String]) -> bool
     false
 }
 
-/// Whether a word asks for the help or the version, if it is no value. A flag of one letter may have others after it.
+/// Whether an argument asks for the help or the version, if it is not a value. Other letters may follow `-h` or
+/// `-V`.
 fn is_help(word: &str) -> bool
     ensures { result ≡ is_help word.now }
 {

@@ -12,10 +12,10 @@ use std::alloc::Global;
 use worker::dead_letters::GiveUp;
 use worker::{MakeGroup, Settings};
 
-/// The settings of a worker in a line: those of KEY, GROUP and CONSUMER, `--count`, `--block`, `--idle`,
+/// Returns the settings of a worker: the values of KEY, GROUP, CONSUMER, `--count`, `--block`, `--idle`,
 /// `--every` and `--from`.
 ///
-/// An empty name is refused, and so is a count that a worker does not accept.
+/// An empty name is an error, and so is a count that the worker does not accept.
 pub fn settings_of(
     alloc: Global,
     command: &mut Command<'_>,
@@ -37,7 +37,7 @@ pub fn settings_of(
     Ok(settings)
 }
 
-/// The settings of a worker with these names, and otherwise the defaults.
+/// Returns settings with the names KEY, GROUP and CONSUMER and the default numbers.
 fn named_settings(
     alloc: Global,
     command: &mut Command<'_>,
@@ -57,14 +57,14 @@ fn named_settings(
     }
 }
 
-/// The number of an option in a line, or its default.
+/// Returns the number of an option. If the option is absent, clap supplies the default.
 fn number_of(matches: &ArgMatches<'_>, number: &Number) -> usize
     ensures { IsNumber (found_of matches.now) number.now.name.now number.now.least number.now.most result }
 {
     number.of(matches).unwrap_or(number.least) as usize
 }
 
-/// Which group the value of `--from` creates.
+/// Returns the group that the value of `--from` creates.
 fn make_group(word: &str) -> MakeGroup
     ensures { MakesGroup word.now result }
 {
@@ -93,8 +93,8 @@ pub fn dead<'a>(alloc: Global, help: &'a str) -> Arg<'a>
     pair(alloc, "dead", DEAD_VALUES.as_slice(), help)
 }
 
-/// The number of deliveries after which entries are given up, and their stream, if a line has `--dead`. TIMES is at
-/// least 1, and STREAM is not KEY: any other value is refused.
+/// Returns the values of `--dead`: the number of deliveries after which entries are given up, and the stream
+/// for them. Returns `None` if the option is absent. TIMES must be at least 1, and STREAM must not be KEY.
 pub fn give_up_of(
     alloc: Global,
     command: &mut Command<'_>,
@@ -121,7 +121,8 @@ pub fn give_up_of(
     Ok(Some(GiveUp { deliveries, stream }))
 }
 
-/// The numbers of `--wait REPLICAS MS`, if a line has it: each is at least 1.
+/// Returns the numbers of `--wait REPLICAS MS`, or `None` if the option is absent. Each number must be at least
+/// 1.
 pub fn confirmation_of(
     alloc: Global,
     command: &mut Command<'_>,
