@@ -1,4 +1,4 @@
--- Acknowledged entries had the reply `done`, over all rounds of a worker.
+-- Each acknowledged entry had the reply `done`, over all rounds of a worker.
 use Rattle.std.specs.Prelude.{◌≡◌, ◌⊎◌, ℕ, List, [], ◌∷◌, ◌++◌, flat_map, Bool, Option, Some}
 use Rattle.std.specs.List.{AllByRecursion}
 use Rattle.redis_connection.specs.Link.{Link}
@@ -20,16 +20,16 @@ use Rattle.worker.specs.declared.state.GroupState.TheVariants.{Unknown}
 use Rattle.worker.specs.declared.state.Settings.{Settings}
 use Rattle.worker.specs.declared.worker.Progress.{Progress}
 
--- an entry whose line was sent, and the next line received
+-- an entry whose line was sent, and the reply that was received
 pub record Exchange : Type 0 where
   pub entry : Entry Pairs
   pub reply : List ℕ
 
--- the lines that were sent, in order
+-- the lines that were sent, each with its line end
 abbrev pub lines_of : List ℕ → List Exchange → List ℕ
 lines_of stream xs = flat_map (λ x. ended (line_of stream x.entry)) xs
 
--- the lines received, in order
+-- the replies that were received, each with its line end
 abbrev pub replies_of : List Exchange → List ℕ
 replies_of xs = flat_map (λ x. ended x.reply) xs
 
@@ -37,13 +37,13 @@ replies_of xs = flat_map (λ x. ended x.reply) xs
 abbrev pub WasDone : List Exchange → Id → Type 0
 WasDone xs id = (x : Exchange) × Among x xs × (x.entry.0 ≡ id) × (verdict_of x.reply ≡ Some Done)
 
--- this is the talk of a handler
+-- the talk is one that a handler can have: not `wrong`
 abbrev pub IsTalk : Talk → Type 0
 IsTalk (goes_on p) = Unit {0}
 IsTalk over = Unit {0}
 IsTalk wrong = ⊥
 
--- while the talk goes on, this was sent, and this will be received
+-- while the talk goes on, the handler has sent `sent` and will receive `coming`
 abbrev pub Stands : Talk → List ℕ → List ℕ → List ℕ → Type 0
 Stands (goes_on p) stream sent coming = p ≡ record { stream = stream; sent = Some sent; coming = Some coming }
 Stands over stream sent coming = Unit {0}
@@ -53,11 +53,11 @@ Stands wrong stream sent coming = ⊥
 abbrev pub acknowledges : Settings → Standing Talk → List Id
 acknowledges settings w = (asking committed settings w).machine.to_acknowledge
 
--- the entries that a reply to its command reported as deleted
+-- the ids that the reply `a` reports as deleted
 abbrev pub deleted_told : Settings → Standing Talk → wire.Answer → List Id
 deleted_told settings w a = deleted_by (hears settings (asking committed settings w).asked a)
 
--- a new worker, whose child was sent this and will reply this
+-- a new worker. Its handler has sent `sent` and will receive `coming`.
 abbrev pub newborn_over : Settings → (stream sent coming : List ℕ) → Standing Talk
 newborn_over settings stream sent coming = record {
   machine = start settings.every;
@@ -67,16 +67,16 @@ newborn_over settings stream sent coming = record {
 }
 
 module _ (settings : Settings) (stream sent coming : List ℕ) where
-  -- the states that a worker may reach, with the entries that were reported as deleted: at first it is new, and each
-  -- round leads to the next state
+  -- the worker is in this state after some rounds. The list contains the ids that the server reported as
+  -- deleted so far. The worker is new at first, and each round leads to the next state.
   pub data Reaches : Standing Talk → List Id → Type 0 where
     begins : Reaches (newborn_over settings stream sent coming) []
     turns : (w x : Standing Talk) (deleted : List Id) (old new : Link) (q : Asked) (p : Progress) → Reaches w deleted
         → (t : Turned talked committed settings old new w x q p)
         → Reaches x (deleted ++ deleted_told settings w t.turn.answer)
 
-  -- the lines of entries were sent to the child, one after the other, and the replies were received, one for each in
-  -- this order; and each id that is acknowledged next had the reply `done`, or the server reported that it was deleted
+  -- The lines of the exchanged entries were sent in order, and the replies were received in the same order.
+  -- Each id that is acknowledged next had the reply `done`, or the server reported that its entry was deleted.
   pub record AreReplied (w : Standing Talk) (deleted : List Id) : Type 0 where
     pub exchanges : List Exchange
     pub rest : List ℕ
@@ -85,7 +85,7 @@ module _ (settings : Settings) (stream sent coming : List ℕ) where
     pub stands : Stands w.history stream (sent ++ lines_of stream exchanges) rest
     pub done : (id : Id) → Among id (acknowledges settings w) → WasDone exchanges id ⊎ Among id deleted
 
--- the law, for each talk of a handler
+-- the law: `AreReplied` holds for every talk that a handler can have, and every handler has such a talk
 pub record AcknowledgedWasReplied : Type 0 where
   pub replied : (settings : Settings) (stream sent coming : List ℕ) (w : Standing Talk) (deleted : List Id)
       → Reaches settings stream sent coming w deleted → IsTalk w.history → AreReplied settings stream sent coming w deleted

@@ -9,50 +9,52 @@ use Rattle.worker_jobs.specs.VerdictOf.{verdict_of}
 use Rattle.worker_jobs.specs.declared.reply.Reply.{Reply}
 use Rattle.worker_jobs.specs.declared.reply.Reply.TheVariants.{Done, Later, Dead}
 
--- the stream of the entries, the bytes sent to the child, and those that it will reply, each if it is known
+-- the stream of the entries, the bytes sent to the child, and the bytes that the child will send. The bytes are
+-- `None` if they are not known.
 pub record Pipes : Type 0 where
   pub stream : List ℕ
   pub sent : Option (List ℕ)
   pub coming : Option (List ℕ)
 
--- the talk goes on over these; or it is over, and the handler returns `Stop` for each entry; no handler is `wrong`
+-- `goes_on`: the handler sends entries over these pipes. `over`: the handler returns `Stop` for each entry.
+-- `wrong`: no handler has this talk.
 pub data Talk : Type 0 where
   goes_on : Pipes → Talk
   over : Talk
   wrong : Talk
 
--- the talk of a handler
+-- the talk of a handler that is over, or has these pipes
 abbrev pub talk_of : Bool → List ℕ → Option (List ℕ) → Option (List ℕ) → Talk
 talk_of true stream sent coming = over
 talk_of false stream sent coming = goes_on (record { stream = stream; sent = sent; coming = coming })
 
--- a line and its line end
+-- a line with its line end
 abbrev pub ended : List ℕ → List ℕ
 ended line = line ++ 10 ∷ []
 
--- the first line of these bytes, and the rest after it; none if there is no line end
+-- the first line of the bytes, and the bytes after it. `None` if there is no line end.
 abbrev pub first_line : List ℕ → Option (List ℕ × List ℕ)
 first_line [] = None
 first_line (b ∷ bytes) = if b == 10 then Some ([], bytes) else option_map (λ (p : List ℕ × List ℕ). (b ∷ p.0, p.1)) (first_line bytes)
 
--- the talk after this reply to an entry
+-- the talk after the reply to an entry, or `wrong` if the handler's verdict does not fit the reply
 abbrev pub by_reply : Pipes → Option Reply → Verdict → Talk
 by_reply p (Some Done) done = goes_on p
 by_reply p (Some Later) left_pending = goes_on p
 by_reply p (Some Dead) left_pending = goes_on p
 by_reply p r v = wrong
 
--- the talk after a line was received
+-- the talk after a line was received, and the handler returned the verdict `v`
 abbrev pub by_line : Pipes → Option (List ℕ × List ℕ) → Verdict → Talk
 by_line p None v = wrong
 by_line p (Some l) v = by_reply (record p { coming = Some l.1 }) (verdict_of l.0) v
 
--- the talk after the line of an entry was sent, and the next line was received
+-- the talk after the line of an entry was sent, the reply was received, and the handler returned `v`
 abbrev pub replied : Pipes → Option (List ℕ) → Verdict → Talk
 replied p None v = goes_on p
 replied p (Some bytes) v = by_line p (first_line bytes) v
 
--- the talk after an entry with this verdict of the handler
+-- the talk after the entry `e`, for which the handler returned this verdict
 abbrev pub talked : Talk → Entry Pairs → Verdict → Talk
 talked wrong e v = wrong
 talked over e stop = over
@@ -67,7 +69,7 @@ talked (goes_on p) e left_pending =
 abbrev pub committed : Talk → Talk
 committed t = t
 
--- the line of an entry was sent whole, and then just this line was received, with its line end
+-- The line of the entry `e` was sent. Then `line` was received with its line end, and no other byte.
 pub record Exchanges (stream : List ℕ) (e : Entry Pairs) (sent sent_then coming coming_then : Option (List ℕ))
     (line : List ℕ) : Type 0 where
   pub went : Appends sent sent_then (ended (line_of stream e))

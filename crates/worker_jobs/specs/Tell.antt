@@ -6,8 +6,8 @@ use Rattle.stream_in_place.specs.Sent.{Pairs}
 use Rattle.worker_jobs.specs.LineOf.{line_of}
 use Rattle.worker_jobs.specs.Lines.{HasNoEnd}
 
--- the law: two entries with the same line, whose names and values are bytes, are the same, and of the same stream; and
--- a line has no line end within it
+-- the law: two entries with the same line are equal, and their streams are equal, if their names and values are
+-- bytes. A line has no line end within it.
 pub record LinesTellEntries : Type 0 where
   pub entry : (s t : List ℕ) (a b : Entry Pairs) → AreOfBytes a.1 → AreOfBytes b.1 → line_of s a ≡ line_of t b
       → (s ≡ t) × (a ≡ b)

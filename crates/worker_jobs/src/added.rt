@@ -11,8 +11,8 @@ use redis_wire::PackError;
 use std::alloc::{AllocError, Global};
 use worker::outbox::Outbox;
 
-/// Queues an XADD for each entry that a reply of JSON adds. Returns false, and queues nothing, if the line is not such a
-/// reply. An `Err` queues nothing.
+/// Queues an XADD for each entry that a reply of JSON adds. Returns false, and queues nothing, if the line is
+/// not a reply of JSON. An `Err` queues nothing.
 pub fn queue_added(alloc: Global, line: &[u8], outbox: &mut Outbox) -> Result<bool, Fault>
     ensures ok { IfOk result (λ is. Queues (entries_of_line line.now) is
         (unsent_of outbox.old) (unsent_of outbox.new)) }
@@ -33,7 +33,8 @@ pub fn queue_added(alloc: Global, line: &[u8], outbox: &mut Outbox) -> Result<bo
     }
 }
 
-/// The same, but what was queued stays.
+/// Queues an XADD for each entry that a reply of JSON adds. Returns false if the line is not a reply of JSON.
+/// After false or an `Err`, some commands may remain queued.
 fn queue_line(alloc: Global, line: &[u8], outbox: &mut Outbox) -> Result<bool, Fault>
     ensures ok { IfOk result (λ is. QueuesSome (entries_of_line line.now) is
         (unsent_of outbox.old) (unsent_of outbox.new)) }
@@ -54,7 +55,8 @@ fn queue_line(alloc: Global, line: &[u8], outbox: &mut Outbox) -> Result<bool, F
     }
 }
 
-/// Queues an XADD for each entry that an object adds. Returns false if it is not a reply.
+/// Queues an XADD for each entry that the members of a JSON object add. Returns false if the object is not a
+/// reply.
 fn queue_members(
     alloc: Global,
     members: &[(&str, Value<'_>)],
@@ -82,7 +84,8 @@ fn is_done_member(member: &(&str, Value<'_>)) -> bool
     }
 }
 
-/// Queues an XADD for each entry of the member `add`. Returns false if this is another member.
+/// Queues an XADD for each entry of the member `add`. Returns false if the member has another name, or is not
+/// an array of entries.
 fn queue_array(
     alloc: Global,
     member: &(&str, Value<'_>),
@@ -99,7 +102,8 @@ fn queue_array(
     }
 }
 
-/// Queues an XADD for each of these pairs of a stream and fields. Returns false at the first that is not one.
+/// Queues an XADD for each item. An item is a pair of a stream and its fields. Returns false at the first item
+/// that is not such a pair.
 fn queue_items(alloc: Global, items: &[Value<'_>], outbox: &mut Outbox) -> Result<bool, Fault>
     ensures ok { IfOk result (λ is. QueuesSome (entries_in (items_view items.now)) is
         (unsent_of outbox.old) (unsent_of outbox.new)) }
@@ -127,7 +131,8 @@ fn queue_item(alloc: Global, item: &Value<'_>, outbox: &mut Outbox) -> Result<bo
     }
 }
 
-/// The same of the items of an array.
+/// Queues the XADD of a pair, given the items of its array. Returns false if they are not a stream and its
+/// fields.
 fn queue_pair(alloc: Global, pair: &[Value<'_>], outbox: &mut Outbox) -> Result<bool, Fault>
     ensures ok { IfOk result (λ is. QueuesOne (entry_of_pair (items_view pair.now)) is
         (unsent_of outbox.old) (unsent_of outbox.new)) }
@@ -142,7 +147,7 @@ fn queue_pair(alloc: Global, pair: &[Value<'_>], outbox: &mut Outbox) -> Result<
     }
 }
 
-/// The same of a stream and a value for its fields.
+/// Queues the XADD of an entry of `stream`. Returns false if `fields` is not an object of fields.
 fn queue_fields<'a>(
     alloc: Global,
     stream: &'a str,
@@ -159,7 +164,7 @@ fn queue_fields<'a>(
     }
 }
 
-/// Queues the XADD of an entry of this stream. Returns false if the stream has no name, if there are no fields, or if a
+/// Queues the XADD of an entry of `stream`. Returns false if `stream` is empty, if there are no fields, or if a
 /// value is not a string.
 fn queue_entry<'a>(
     alloc: Global,
@@ -184,7 +189,7 @@ fn queue_entry<'a>(
     }
 }
 
-/// The names and values of an object by turns; `None` if a value is not a string.
+/// Returns each name of an object followed by its value, in order. Returns `None` if a value is not a string.
 fn collect_fields<'a>(
     alloc: Global,
     members: &[(&'a str, Value<'a>)],

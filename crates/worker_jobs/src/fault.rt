@@ -9,22 +9,22 @@ use thiserror::Error;
 /// Why a child has no reply.
 #[derive(Debug, Drop, Error)]
 pub enum Fault {
-    /// The line could not be written to it.
+    /// The line could not be written to the child.
     #[error("it takes no line: {0}")]
     Write(io::Error),
-    /// Its reply could not be read.
+    /// The child's reply could not be read.
     #[error("its reply cannot be read: {0}")]
     Read(io::Error),
-    /// Its output ended before the end of a reply.
+    /// The child's output ended before the end of a reply.
     #[error("its output ended before a reply")]
     Ended,
-    /// Its reply is longer than `LONGEST`.
+    /// The child's reply is longer than `LONGEST`.
     #[error("its reply is longer than 65536 bytes")]
     TooLong,
-    /// Its reply is not one of the known lines.
+    /// The child's line is not one of the known replies.
     #[error("its reply is not done, later, dead or stop")]
     Unknown,
-    /// It wrote a line before one was sent to it.
+    /// The child wrote a line before an entry was sent to it.
     #[error("it wrote more than one line for the entry before")]
     Unasked,
     /// Memory ran out.

@@ -22,13 +22,13 @@ use worker::{EntryRef, Handler, NotCommitted, Verdict};
 pub struct Note {
     /// The id of the entry.
     pub id: String,
-    /// Whether it is to be given up.
+    /// Whether the worker should give up the entry.
     pub dead: bool,
     /// The text of the reply.
     pub text: Vec<u8>,
 }
 
-/// A handler that passes entries to a child process: it writes a line for each entry, and reads one line.
+/// A handler that passes entries to a child process: for each entry it writes one line and reads one line.
 #[derive(Drop)]
 pub struct Jobs<R: SteadyRead + Drop, W: SteadyWrite + Drop> {
     stream: String,
@@ -36,25 +36,26 @@ pub struct Jobs<R: SteadyRead + Drop, W: SteadyWrite + Drop> {
     lines: W,
     /// The last reply; its buffer is reused for the next one.
     reply: Vec<u8>,
-    /// Whether it returned `Stop`, and sends no more lines.
+    /// Whether the handler returned `Stop`, and sends no more lines.
     over: bool,
-    /// How many entries it received, how many were done, how many of them are committed, and how many stay pending by a
-    /// reply.
+    /// The number of entries that the handler received, of those done, of those committed, and of those that a
+    /// reply left pending.
     pub seen: u64,
     pub done: u64,
     pub committed: u64,
     pub left: u64,
     /// The error of the child; `None` if its reply was `stop`.
     pub fault: Option<Fault>,
-    /// The id of the entry at which it stopped, if there was memory to keep it.
+    /// The id of the entry at which the handler stopped, if there was memory to keep it.
     pub undone: Option<String>,
     notes: Vec<Note>,
-    /// The commands for the entries that replies add, without a reply of the server.
+    /// The commands for the entries that replies add, as long as the server has not replied to them.
     outbox: Outbox,
 }
 
 impl<R: SteadyRead + Drop, W: SteadyWrite + Drop> Jobs<R, W> {
-    /// A handler for the entries of this stream, over a writer for the lines and a reader for the replies.
+    /// Creates a handler for the entries of `stream`. It reads the replies from `replies`, and writes the lines
+    /// to `lines`.
     pub fn new(alloc: Global, stream: String, replies: R, lines: W) -> Jobs<R, W>
         ensures ends { (result.replies ≡ replies) × (result.lines ≡ lines) }
         ensures stream { result.stream ≡ stream }
@@ -78,21 +79,21 @@ impl<R: SteadyRead + Drop, W: SteadyWrite + Drop> Jobs<R, W> {
         }
     }
 
-    /// Whether it returned `Stop`.
+    /// Whether the handler returned `Stop`.
     pub fn is_over(&self) -> bool
         ensures { result ≡ self.now.over }
     {
         self.over
     }
 
-    /// The last reply.
+    /// Returns the last reply.
     pub fn reply(&self) -> &[u8]
         ensures { result.now ≡ self.now.reply.items }
     {
         &self.reply
     }
 
-    /// Takes the texts for entries that stay pending, in order, and leaves an empty list.
+    /// Returns the notes on entries that stay pending, in order, and leaves an empty list.
     pub fn take_notes(&mut self, alloc: Global) -> Vec<Note>
         ensures notes { result ≡ self.old.notes }
         ensures rest { self.new.notes.items ≡ [] }
@@ -101,8 +102,9 @@ impl<R: SteadyRead + Drop, W: SteadyWrite + Drop> Jobs<R, W> {
         mem::replace(&mut self.notes, Vec::new(alloc))
     }
 
-    /// Sends the commands for the entries that replies add, and takes the server's reply to each. Does nothing if there
-    /// are none. After an `Err` those without a reply stay queued, and `commit` fails.
+    /// Sends the commands for the entries that replies add, and receives the server's reply to each. Does
+    /// nothing if there are no commands. After an `Err` the commands without a reply stay queued, and `commit`
+    /// fails.
     pub fn send_added<I: Read + Drop, O: Write + Drop>(
         &mut self,
         alloc: Global,
@@ -121,8 +123,8 @@ impl<R: SteadyRead + Drop, W: SteadyWrite + Drop> Jobs<R, W> {
         self.outbox.send(alloc, connection)
     }
 
-    /// Writes the line of an entry, reads the next line, and returns its reply. A line that was received before is an
-    /// error: it would be taken for the reply to this entry.
+    /// Writes the line of an entry, and reads the reply. A line that was received before the entry was sent is
+    /// an error, since it could be mistaken for the reply.
     fn exchange(&mut self, alloc: Global, entry: &EntryRef<'_>) -> Result<Reply, Fault>
         ensures stream { self.new.stream ≡ self.old.stream }
         ensures over { self.new.over ≡ self.old.over }
@@ -148,7 +150,8 @@ impl<R: SteadyRead + Drop, W: SteadyWrite + Drop> Jobs<R, W> {
         }
     }
 
-    /// Sends an entry to the child and returns its reply. Keeps the text if the entry stays pending.
+    /// Sends an entry to the child, and returns the child's reply. Keeps a note of the reply's text if the
+    /// entry stays pending.
     fn ask(&mut self, alloc: Global, entry: &EntryRef<'_>) -> Result<Reply, Fault>
         ensures stream { self.new.stream ≡ self.old.stream }
         ensures over { self.new.over ≡ self.old.over }
@@ -171,7 +174,7 @@ impl<R: SteadyRead + Drop, W: SteadyWrite + Drop> Jobs<R, W> {
         Ok(reply)
     }
 
-    /// Keeps the text of a reply, if it has one, and the id of an entry that is to be given up.
+    /// Keeps a note of the last reply, if the reply has a text or the entry should be given up.
     fn keep_note(&mut self, alloc: Global, id: &str, dead: bool) -> Result<(), Fault>
         ensures kept { self.new ≡ record self.old { notes = self.new.notes } }
         ensures noted { OnOk result (IsNoted id.now dead (text_of self.old.reply.items)
@@ -190,7 +193,7 @@ impl<R: SteadyRead + Drop, W: SteadyWrite + Drop> Jobs<R, W> {
         Ok(())
     }
 
-    /// Stops at an entry, with this fault if there is one.
+    /// Stops at the entry `id`, and records the fault.
     fn stop(&mut self, alloc: Global, id: &str, fault: Option<Fault>) -> Verdict
         ensures verdict { result ≡ Verdict.Stop }
         ensures over { self.new.over ≡ true }
@@ -212,8 +215,8 @@ impl<R: SteadyRead + Drop, W: SteadyWrite + Drop> Handler for Jobs<R, W> {
 
     ghost history = { λ j. talk_of j.over (string_bytes j.stream) (W.contents j.lines) (R.remaining j.replies) };
 
-    /// Sends the entry to the child; it is done if the reply is `done`, or one of JSON. After `stop`, and after a fault,
-    /// it stops, and sends no other one.
+    /// Sends the entry to the child. The entry is done if the reply is `done` or JSON. After the reply `stop`
+    /// or a fault, the handler returns `Stop` and sends no other entry.
     fn handle(&mut self, alloc: Global, entry: &EntryRef<'_>) -> Verdict
         ensures history { ⟦<Jobs<R, W> as Handler>⟧.history self.new
             ≡ talked (⟦<Jobs<R, W> as Handler>⟧.history self.old) (pair_of entry.now) (verdict_of result) }
@@ -243,8 +246,8 @@ impl<R: SteadyRead + Drop, W: SteadyWrite + Drop> Handler for Jobs<R, W> {
         }
     }
 
-    /// Does nothing, since the replies of a batch were received before. It fails while the server has not replied to a
-    /// command for an entry that a reply adds.
+    /// Only counts the entries that are done, since the child's replies were received before. Fails if the
+    /// server has not replied to all commands for the entries that replies add.
     fn commit(&mut self, _alloc: Global) -> Result<(), NotCommitted>
         ensures history { OnOk result (⟦<Jobs<R, W> as Handler>⟧.history self.new
             ≡ committed (⟦<Jobs<R, W> as Handler>⟧.history self.old)) }

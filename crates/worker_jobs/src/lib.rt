@@ -1,9 +1,12 @@
 //! A worker's handler that is another program, in any language, at the other end of two pipes.
 //!
-//! For each entry it writes one line of JSON, `{"id":"1-0","fields":[["name","value"],..],"stream":"orders"}`, and
-//! reads one line: `done`, `later`, `later TEXT`, `dead TEXT` or `stop`. The next line is written after that reply. An
-//! entry is done only if the reply to its line is `done`, or `{"done":true}`. That may add entries to other streams,
-//! `{"done":true,"add":[["stream",{"name":"value"}]]}`: they are sent before the entry is acknowledged.
+//! For each entry the handler writes one line of JSON,
+//! `{"id":"1-0","fields":[["name","value"],..],"stream":"orders"}`. Then it reads one line, the reply: `done`,
+//! `later`, `later TEXT`, `dead TEXT` or `stop`. The next line is written after the reply.
+//!
+//! An entry is done only if the reply to its line is `done`, or `{"done":true}`. A reply of JSON may add
+//! entries to other streams: `{"done":true,"add":[["stream",{"name":"value"}]]}`. They are sent before the
+//! entry is acknowledged.
 #![tactic(auto)]
 
 mod added;

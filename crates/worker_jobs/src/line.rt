@@ -10,7 +10,7 @@ use std::alloc::{AllocError, Global};
 use worker::EntryRef;
 use worker::entry_json::push_fields;
 
-/// The line of an entry of this stream, without its end:
+/// Returns the line of an entry of `stream`, without the line end:
 /// `{"id":"1-0","fields":[["name","value"],..],"stream":"orders"}`.
 pub fn entry_line(alloc: Global, stream: &str, entry: &EntryRef<'_>) -> Result<Vec<u8>, AllocError>
     ensures line { IfOk result (λ line. line.items ≡ line_of stream.now (pair_of entry.now)) }
@@ -64,7 +64,7 @@ fn end(out: &mut Writer, stream: &str) -> Result<(), AllocError>
     out.end_object()
 }
 
-/// Writes a name and its text.
+/// Writes the member `name` with the string `text`.
 fn push_text(out: &mut Writer, name: &str, text: &str) -> Result<(), AllocError>
     ensures before { out.new.before ≡ out.old.before }
     ensures tokens { OnOk result (out.new.tokens ≡ out.old.tokens ++ key name.now ∷ string text.now ∷ []) }

@@ -13,22 +13,25 @@ use std::io::{self, BufReader, ErrorKind, Read, Write};
 /// The most bytes in a reply, without its line end.
 pub const LONGEST: usize = 65_536;
 
-/// A writer whose content is known at every time, or never.
+/// A writer whose content is always known, or never known.
 pub trait SteadyWrite: Write {
-    /// If it is unknown for one value, it is for each.
+    /// If the content of one writer of this type is unknown, the content of every writer of this type is
+    /// unknown.
     ghost stays_unknown: { (a b : Self) → Self.contents a ≡ None → Self.contents b ≡ None };
 }
 
-/// A reader whose remaining bytes are known at every time, or never.
+/// A reader whose remaining bytes are always known, or never known.
 pub trait SteadyRead: Read {
-    /// The bytes that were read before a line was requested. A reader in memory has none.
+    /// The bytes in the reader's buffer: they were read before a line was requested. A reader in memory has
+    /// none.
     ghost ahead: { Self → List ℕ };
 
-    /// Whether it has such bytes.
+    /// Whether the reader's buffer has bytes.
     fn holds_more(&self) -> bool
         ensures { result ≡ nat_lt 0 (length (Self.ahead self.now)) };
 
-    /// If it is unknown for one value, it is for each.
+    /// If the remaining bytes of one reader of this type are unknown, those of every reader of this type are
+    /// unknown.
     ghost stays_unknown: { (a b : Self) → Self.remaining a ≡ None → Self.remaining b ≡ None };
 }
 
@@ -74,9 +77,10 @@ pub fn write_line<W: Write>(writer: &mut W, line: &mut Vec<u8>) -> Result<(), Fa
     }
 }
 
-/// Reads a line, and stores it without its line end. It reads no byte after the line end.
+/// Reads a line, and stores it in `line` without its line end. Reads no byte after the line end.
 ///
-/// An `Err` is `TooLong` if `LONGEST` bytes and one more have no line end, and `Ended` if the reader ends before one.
+/// Returns `TooLong` if the first `LONGEST` + 1 bytes have no line end. Returns `Ended` if the reader ends
+/// before a line end.
 pub fn read_line<R: Read>(reader: &mut R, line: &mut Vec<u8>) -> Result<(), Fault>
     ensures read { OnOk result (Consumes (R.remaining reader.old) (R.remaining reader.new) (line.new.items ++ 10 ∷ [])) }
     ensures one_line { OnOk result (HasNoEnd line.new.items) }
@@ -94,7 +98,7 @@ pub fn read_line<R: Read>(reader: &mut R, line: &mut Vec<u8>) -> Result<(), Faul
     Err(Fault::TooLong)
 }
 
-/// Reads the next byte; retries if a signal interrupted it.
+/// Reads the next byte. Retries if a signal interrupted the read.
 fn read_byte<R: Read>(reader: &mut R) -> Result<u8, Fault>
     ensures ok { IfOk result (λ byte. Consumes (R.remaining reader.old) (R.remaining reader.new) (byte ∷ [])) }
     ensures err { IfErr result (NoByte (R.remaining reader.old) (R.remaining reader.new)) }

@@ -11,19 +11,19 @@ use worker::outbox::Outbox;
 /// The reply of a child to an entry.
 #[derive(Clone, Copy, Debug, PartialEq, Eq)]
 pub enum Reply {
-    /// `done`, or a reply of JSON: the entry is acknowledged, once the worker has committed.
+    /// `done`, or a reply of JSON: the entry is acknowledged after the worker has committed.
     Done,
-    /// `later` or `later TEXT`: it stays pending, and is delivered again.
+    /// `later` or `later TEXT`: the entry stays pending, and is delivered again.
     Later,
-    /// `dead TEXT`: it is to be given up.
+    /// `dead TEXT`: the worker should give up the entry.
     Dead,
-    /// `stop`: it stays pending, and the worker takes no other entry.
+    /// `stop`: the entry stays pending, and the worker takes no other entry.
     Stop,
 }
 
-/// Parses this line, without its line end, and queues an XADD for each entry that it adds, if it is a reply of JSON:
-/// `{"done":true,"add":[["stream",{"name":"value"}]]}`. Returns `None`, and queues nothing, if it is not a reply.
-/// An `Err` queues nothing.
+/// Parses a reply without its line end. If the reply is JSON, queues an XADD for each entry that it adds:
+/// `{"done":true,"add":[["stream",{"name":"value"}]]}`. Returns `None`, and queues nothing, if the line is not
+/// a reply. An `Err` queues nothing.
 pub fn take_reply(alloc: Global, line: &[u8], outbox: &mut Outbox) -> Result<Option<Reply>, Fault>
     ensures reply { IfOk result (λ reply. reply ≡ verdict_of line.now) }
     ensures added { OnOk result (unsent_of outbox.new ≡ unsent_of outbox.old ++ commands_of_line line.now) }
@@ -40,7 +40,7 @@ pub fn take_reply(alloc: Global, line: &[u8], outbox: &mut Outbox) -> Result<Opt
     }
 }
 
-/// Parses a reply of words, without its line end; `None` if it is not one.
+/// Parses a reply that is not JSON, without its line end. Returns `None` if the line is not such a reply.
 pub fn word_in(line: &[u8]) -> Option<Reply>
     ensures { result ≡ word_of line.now }
 {
@@ -57,7 +57,7 @@ pub fn word_in(line: &[u8]) -> Option<Reply>
     }
 }
 
-/// The text after the first space of a line; empty if it has no space.
+/// Returns the text after the first space of a line. The text is empty if the line has no space.
 pub fn text_in(line: &[u8]) -> &[u8]
     ensures { result.now ≡ text_of line.now }
 {
