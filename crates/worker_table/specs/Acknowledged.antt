@@ -14,7 +14,7 @@ use Rattle.worker.specs.declared.worker.Progress.{Progress}
 use Rattle.worker_table.specs.Kept.{Kept, committed_with, key_in, kept_too}
 use Rattle.worker_table.specs.Lived.{LivesSo, newborn_with}
 
--- a row of this id is there
+-- there is a row with this id
 abbrev pub IsThere : List Row → Id → Type 0
 IsThere rows id = IsSome (find (key_in id) rows)
 
@@ -22,16 +22,18 @@ IsThere rows id = IsSome (find (key_in id) rows)
 abbrev pub acknowledges : Settings → Standing Kept → List Id
 acknowledges settings w = (asking committed_with settings w).machine.to_acknowledge
 
--- the ids that a failed round may have acknowledged: none if its command was not sent
+-- the ids that a failed round may have acknowledged. They are none if the command was not sent.
 abbrev pub asked_before : RunError → List Id → List Id
 asked_before (causes.Request e) ids = []
 asked_before e ids = ids
 
 module _ (settings : Settings) (columns : List Column) (gone : List Id) where
-  -- the states of a worker over a table that had these rows as it was started, and the ids acknowledged so far, by this
-  -- worker and those before it. At first it is new. In each round it takes a reply, or the round fails. At any
-  -- time it may crash. Then its table has what was committed, and perhaps more rows, all keys distinct, and another
-  -- worker is started over it, which knows nothing else. An entry that the server reports as deleted is gone
+  -- The states of a worker over a table that had the rows `first` at the start. The last list contains the ids
+  -- that this worker and the workers before it acknowledged.
+  -- A worker is new at first. In each round it receives a reply, or the round fails. It may crash at any time.
+  -- A crash leaves the committed rows, and perhaps more rows after them, with distinct keys. Then another
+  -- worker starts over the table, and knows nothing else. The entries that the server reports as deleted are in
+  -- `gone`.
   pub data Reaches : List Row → Standing Kept → List Id → List Id → Type 0 where
     begins : (first : List Row) → KeysApart first → Reaches first (newborn_with settings (columns, Some first)) [] []
     turns : (first : List Row) (w x : Standing Kept) (deleted more acknowledged : List Id) (old new : Link) (q : Asked)
@@ -47,14 +49,14 @@ module _ (settings : Settings) (columns : List Column) (gone : List Id) where
         → Reaches first w deleted acknowledged → w.history.committed ≡ Some rows → BeginsWith rows left
         → KeysApart left → Reaches left (newborn_with settings (columns, Some left)) [] acknowledged
 
-  -- the committed rows after that: no id is there twice, and each id that was acknowledged is there or gone
+  -- no committed rows have the same key, and each acknowledged id has a row or is in `gone`
   pub record AreSettled (w : Standing Kept) (acknowledged : List Id) : Type 0 where
     pub rows : List Row
     pub committed : w.history.committed ≡ Some rows
     pub apart : KeysApart rows
     pub there : (id : Id) → Among id acknowledged → IsThere rows id ⊎ Among id gone
 
--- the law of this
+-- the law: every worker that `Reaches` describes satisfies `AreSettled`
 abbrev pub AcknowledgedIsARow : Type 0
 AcknowledgedIsARow = (settings : Settings) (columns : List Column) (gone : List Id) (first : List Row) (w : Standing Kept)
     (deleted acknowledged : List Id) → Reaches settings columns gone first w deleted acknowledged

@@ -14,7 +14,7 @@ use Rattle.stream_in_place.specs.Sent.{Pairs}
 use Rattle.worker_table.specs.Kept.{Kept, row_in}
 use Rattle.worker_table.specs.declared.sending.SendError.{SendError}
 
--- names and values in turn
+-- each name followed by its value
 abbrev pub field_words : Pairs → List (List ℕ)
 field_words fields = flat_map (λ p. p.0 ∷ p.1 ∷ []) fields
 
@@ -26,25 +26,25 @@ add_words target e = codes "XADD" ∷ target ∷ e.0 ∷ field_words e.1
 abbrev pub look_words : List ℕ → Id → List (List ℕ)
 look_words target id = codes "XRANGE" ∷ target ∷ id ∷ id ∷ []
 
--- the row of an entry, and its command: the entry is added to the target under its own id, with its fields in order,
--- and the query is whether an entry of this id is there
+-- the row of the entry `e`, with its command and its query. The command adds the entry to `target` under its
+-- own id, with its fields in order. The query returns the entry of `target` with this id.
 abbrev pub posted_in : List ℕ → List Column → Entry Pairs → Posted
 posted_in target columns e =
     (row_in columns e, (command_bytes (add_words target e), command_bytes (look_words target e.0)))
 
--- what a handler that forwards keeps: the same rows as one that forwards nothing
+-- what a forwarding handler keeps: the same rows as a handler that does not forward
 abbrev pub forwarding_kept : List Column → List Posted → Option Stored → Kept
 forwarding_kept columns loose known =
     record { columns = columns; loose = rows_in loose; committed = rows_known known }
 
--- the server took the command: its reply is a value
+-- whether the server executed the command: its reply is a value
 abbrev pub is_taken : wire.Answer → Bool
 is_taken (wire.value t) = true
 is_taken (wire.refused text) = false
 is_taken (wire.group kind members) = false
 is_taken (wire.pushed kind payload) = false
 
--- the id is not above the last one of the target
+-- whether the reply is the error that the id is not above the last id of the target
 abbrev pub is_too_small : wire.Answer → Bool
 is_too_small (wire.value t) = false
 is_too_small (wire.refused text) =
@@ -52,45 +52,47 @@ is_too_small (wire.refused text) =
 is_too_small (wire.group kind members) = false
 is_too_small (wire.pushed kind payload) = false
 
--- one entry at least
+-- whether there is at least one entry
 abbrev pub are_some : Trees → Bool
 are_some no_trees = false
 are_some (more_trees t ts) = true
 
--- the value is an array with an entry in it
+-- whether the value is an array that contains an entry
 abbrev pub has_entry : Tree → Bool
 has_entry (array ts) = are_some ts
 has_entry _ = false
 
--- an entry of this id is there
+-- whether the reply contains an entry
 abbrev pub shows_one : wire.Answer → Bool
 shows_one (wire.value t) = has_entry t
 shows_one (wire.refused text) = false
 shows_one (wire.group kind members) = false
 shows_one (wire.pushed kind payload) = false
 
--- these bytes were sent, and then this reply was received
+-- `bytes` were sent, and then the reply `a` was received
 abbrev pub AsksBy : List ℕ → wire.Answer → Link → Link → Type 0
 AsksBy bytes a old new = (m : Link) × Sends old m bytes × ReceivesAnswer m new a
 
--- the command was sent, and the server took it; or its id was too small, and an entry of this id is there
+-- The command was sent, and the server executed it. Or the command's id was too small, and the query returned
+-- an entry with this id.
 abbrev pub IsAdded : Post → Link → Link → Type 0
 IsAdded p old new = (a : wire.Answer) × ((AsksBy p.command a old new × (is_taken a ≡ true))
     ⊎ ((m : Link) × (b : wire.Answer) × AsksBy p.command a old m × (is_too_small a ≡ true) × AsksBy p.question b m new
     × (shows_one b ≡ true)))
 
--- posts were sent over a connection, each the first one that was left; each got such a reply and was then removed
+-- Posts were sent over a connection. Each was the first post left, got a reply as in `IsAdded`, and was then
+-- removed.
 pub data Went : Link → Option Stored → Link → Option Stored → Type 0 where
   none : (l : Link) (s : Option Stored) → Went l s l s
   more : (l m n : Link) (s t : Option Stored) (p : Post) → Went l s m t → IfSome t (λ u. IsFirst (Some p) u.posts)
       → IsAdded p m n → Went l s n (option_map (λ u. without_post u p.key) t)
 
--- all posts were sent so; or some were, and then something failed
+-- `Ok`: all posts were sent as in `Went`. `Err`: some posts were, before something failed.
 abbrev pub HasSent : {A : Type 0} → Result A SendError → Link → Option Stored → Link → Option Stored → Type 0
 HasSent (Ok x) old s new t = Went old s new t × IfSome t (λ u. u.posts ≡ [])
 HasSent (Err e) old s new t = (m : Link) × Went old s m t
 
--- each outcome of a crash is an old outcome, or what such posts leave
+-- each outcome of a crash is an old outcome, or what remains after some posts were sent as in `Went`
 abbrev pub LeavesSent : Link → Option Stored → (Stored → Type 0) → (Stored → Type 0) → Type 0
 LeavesSent link s old new = (left : Stored) → new left
     → old left ⊎ ((m : Link) × (t : Option Stored) × Went link s m t × IfSome t (λ u. left ≡ u))

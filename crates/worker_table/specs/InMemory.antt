@@ -1,4 +1,5 @@
--- Handlers whose table is known: the schedules of acknowledged rows, from the start of a worker on, and after a crash.
+-- Handlers whose table is known follow the schedules of acknowledged rows, from the start of a worker and after
+-- a crash.
 use Rattle.std.specs.Prelude.{◌≡◌, ◌⊎◌, List, [], Some, IfSome, IsSome}
 use Rattle.worker_table.specs.declared.row_table.cell.Column.{Column}
 use Rattle.worker_table.specs.RowTable.Rows.{KeysApart, Row}
@@ -11,7 +12,7 @@ use Rattle.worker_table.specs.Kept.{Kept}
 use Rattle.worker_table.specs.Lived.{newborn_with}
 
 module _ {H : Type 0} (history : H → Kept) (may_leave : H → List Row → Type 0) where
-  -- a worker with such a handler after a schedule, and the rows that a crash leaves now
+  -- a worker with such a handler after a schedule, and the rows that a crash leaves at this point
   pub record Crashed (settings : Settings) (columns : List Column) (gone acknowledged : List Id) (left : List Row) : Type 0 where
     pub first : List Row
     pub worker : Standing Kept
@@ -21,9 +22,9 @@ module _ {H : Type 0} (history : H → Kept) (may_leave : H → List Row → Typ
     pub keeps : worker.history ≡ history handler
     pub leaves : may_leave handler left
 
-  -- the law: the committed rows are known, and a crash may leave them; a new worker is at the start of a schedule, if no
-  -- key is there twice; and after a crash another worker goes on with it over what is left, where each id that was
-  -- acknowledged is a row or gone
+  -- the law: The committed rows are known, and a crash may leave them. A new worker is at the start of a
+  -- schedule, if all keys are distinct. After a crash another worker continues the schedule with the rows that
+  -- are left. Each acknowledged id has one of these rows or is in `gone`.
   pub record GoesThroughSchedules : Type 0 where
     pub known : (h : H) → IsSome (history h).committed
     pub may_stay : (h : H) → IfSome (history h).committed (may_leave h)

@@ -11,48 +11,48 @@ use Rattle.stream_in_place.specs.declared.id_parts.StreamIdParts.{StreamIdParts}
 use Rattle.worker.specs.Gathered.{Doings, committed_too, done_too}
 use Rattle.worker_table.specs.Cells.{cells_in}
 
--- the two numbers of an id; a text that is not an id counts as 0-0, and no handler makes a row of it
+-- the two numbers of an id, or 0-0 if the text is not an id. No handler makes a row of such a text.
 abbrev pub key_by : Option StreamIdParts → Key
 key_by None = (0, 0)
 key_by (Some id) = (id.ms, id.seq)
 
--- the two numbers of an id that is a text
+-- the two numbers of an id, parsed from its text
 abbrev pub key_in : Id → Key
 key_in id = key_by (id_in id)
 
--- the row of an entry: its id as a key, and its values in these columns
+-- the row of the entry `e`: the id as the key, and the values for the columns
 abbrev pub row_in : List Column → Entry Pairs → Row
 row_in columns e = (key_in e.0, cells_in columns e.1)
 
--- the rows of entries
+-- the rows of the entries, in order
 abbrev pub rows_in : List Column → List (Entry Pairs) → List Row
 rows_in columns es = map (row_in columns) es
 
--- the rows that a handler keeps
+-- the rows that a handler has gathered and committed
 pub record Kept : Type 0 where
   pub columns : List Column  -- of its rows
   pub loose : List Row  -- gathered and not committed
   pub committed : Option (List Row)  -- committed, if the table is known
 
--- a handler keeps this: these rows are gathered, and these are committed
+-- the rows of a handler: `loose` are gathered, and `known` are committed
 abbrev pub kept_by : List Column → List memory.Row → Option (List Row) → Kept
 kept_by columns loose known = record { columns = columns; loose = rows_of loose; committed = known }
 
--- with the row of one more entry, if it was done
+-- adds the row of the entry `e` to the gathered rows, if the verdict is `done`
 abbrev pub kept_too : Kept → Entry Pairs → Verdict → Kept
 kept_too k e done = record k { loose = k.loose ++ row_in k.columns e ∷ [] }
 kept_too k e left_pending = k
 kept_too k e stop = k
 
--- the gathered rows are committed
+-- commits the gathered rows
 abbrev pub committed_with : Kept → Kept
 committed_with k = record k { loose = []; committed = with_known k.loose k.committed }
 
--- the start of a handler: its columns, and the rows of its table, if they are known
+-- the start of a handler: the columns, and the rows of the table, if they are known
 abbrev pub Beginning : Type 0
 Beginning = List Column × Option (List Row)
 
--- the gathered and committed rows of these doings, after the first rows
+-- the gathered and committed rows of the history `d`, after the first rows
 abbrev pub kept_of : Beginning → Doings → Kept
 kept_of first d = record {
   columns = first.0;
@@ -60,8 +60,9 @@ kept_of first d = record {
   committed = with_known (rows_in first.0 d.committed) first.1;
 }
 
--- the law: after each verdict and commit, the gathered rows are those of what was done and not committed, in order,
--- and the committed rows are the first rows with those of what was committed inserted, in order
+-- the law: The gathered rows are those of the entries done and not committed, in order. The committed rows are
+-- the first rows, followed by those of the committed entries, in order. Each verdict and each commit keeps this
+-- true.
 abbrev pub GathersItsRows : Type 0
 GathersItsRows = (first : Beginning) (d : Doings)
     → ((e : Entry Pairs) (v : Verdict) → kept_of first (done_too d e v) ≡ kept_too (kept_of first d) e v)

@@ -1,4 +1,4 @@
--- The rounds of a worker whose handler keeps rows, as rounds of its life.
+-- The rounds of a worker whose handler keeps rows, as rounds of a worker's life.
 use Rattle.std.specs.Prelude.{◌≡◌, List, [], ◌++◌}
 use Rattle.redis_connection.specs.Link.{Link}
 use Rattle.model_server.specs.Group.Worker.{Id, start}
@@ -16,14 +16,14 @@ use Rattle.worker.specs.declared.state.Settings.{Settings}
 use Rattle.worker.specs.declared.worker.Progress.TheVariants.{GoesOn, Stopped}
 use Rattle.worker_table.specs.Kept.{Beginning, Kept, committed_with, kept_of, kept_too}
 
--- a round of a worker's life, with these ids of deleted entries, after some doings of its handler: the rows of these
--- are those that it gathered and those that it committed after the first rows
+-- `w` is a state in a worker's life, and `deleted` are the ids reported as deleted. The handler has done
+-- `doings`. Its gathered and committed rows are those of `doings`, after the first rows.
 pub record LivesSo (settings : Settings) (first : Beginning) (w : Standing Kept) (deleted : List Id) : Type 0 where
   pub doings : Doings
   pub lives : Lives settings (with_doings w doings) deleted
   pub kept : w.history ≡ kept_of first doings
 
--- a new worker, whose handler has gathered nothing, with these rows in its table
+-- a new worker, whose handler has gathered nothing, and whose table has the first rows
 abbrev pub newborn_with : Settings → Beginning → Standing Kept
 newborn_with settings first = record {
   machine = start settings.every;
@@ -32,12 +32,12 @@ newborn_with settings first = record {
   history = record { columns = first.0; loose = []; committed = first.1 };
 }
 
--- if the rows that are kept are those of some doings, this way leads to kept rows of more doings
+-- if the kept rows are those of some history of the handler, `way` leads to the kept rows of a longer history
 abbrev pub Leads : Way → Link → Link → Standing Kept → Standing Kept → Type 0
 Leads way old new w x = loops.Leads kept_of way old new w x
 
--- the law: a new worker lives so; each round is such a way; and a worker that lives still lives after such rounds, with
--- exactly those entries deleted meanwhile that the replies in these rounds reported
+-- the law: A new worker satisfies `LivesSo`. Each round leads to a longer history. A worker's life continues
+-- after such rounds, and the deleted ids grow by exactly those that the replies in the rounds reported.
 pub record RoundsAreLived : Type 0 where
   pub begins : (settings : Settings) (first : Beginning) → LivesSo settings first (newborn_with settings first) []
   pub goes_on : (settings : Settings) (old new : Link) (w x : Standing Kept) (asked : Asked)

@@ -1,4 +1,4 @@
--- Each acknowledged id is a row, and was or will be forwarded.
+-- Each acknowledged id has a row, and its entry was or will be forwarded.
 use Rattle.std.specs.Prelude.{◌≡◌, ◌⊎◌, List, Some}
 use Rattle.worker_table.specs.declared.row_table.cell.Column.{Column}
 use Rattle.worker_table.specs.RowTable.Posts.{Stored}
@@ -11,9 +11,10 @@ use Rattle.worker.specs.declared.state.Settings.{Settings}
 use Rattle.worker_table.specs.Acknowledged.{IsThere, Reaches}
 use Rattle.worker_table.specs.Kept.{Kept, key_in}
 
--- the law: let a worker that forwards be in the state after a schedule, and let its table have the contents after a
--- schedule of transactions and replies. Then each id that was acknowledged is a row, which was there first, or whose
--- post is there or got a reply; or the server reported that it was deleted
+-- the law: Let a worker that forwards be in the state after a schedule. Let its table have the contents after a
+-- schedule of transactions and replies. Then each acknowledged id has a row that was passed on, or the server
+-- reported that its entry was deleted. A row is passed on if it existed at first, or if its post is in the
+-- outbox or got a reply.
 abbrev pub AcknowledgedIsPassedOn : Type 0
 AcknowledgedIsPassedOn = (settings : Settings) (columns : List Column) (gone : List Id) (began : List Row)
     (w : Standing Kept) (deleted acknowledged : List Id) (first s : Stored) (done : List Key)

@@ -16,24 +16,24 @@ use Rattle.worker_table.specs.declared.handler.Fault.TheVariants as faults
 use Rattle.worker_table.specs.declared.columns.ReadError.{ReadError}
 use Rattle.worker_table.specs.declared.columns.ReadError.TheVariants as reading
 
--- memory ran out, or it is the error of the reading
+-- memory ran out, or the error is that of `read`
 abbrev pub IsWhy : Result Cell FieldError → ReadError → Type 0
 IsWhy read reading.Memory = Unit {0}
 IsWhy read (reading.Field why) = read ≡ Err why
 
--- memory ran out, or the field of this column is not read for this reason, and it has this name
+-- memory ran out, or the field with the name of the column `c` could not be read for this reason
 abbrev pub IsWhyOf : Column → Pairs → CellsError → Type 0
 IsWhyOf c fields cells.Memory = Unit {0}
 IsWhyOf c fields (cells.Field name why) = (string_bytes name ≡ string_bytes c.name) × (cell_read c fields ≡ Err why)
 
--- the same for one of these columns
+-- memory ran out, or the field with the name of one of the columns could not be read for this reason
 abbrev pub IsWhyOfOne : List Column → Pairs → CellsError → Type 0
 IsWhyOfOne columns fields cells.Memory = Unit {0}
 IsWhyOfOne columns fields (cells.Field name why) = (i : ℕ) × (c : Column) × (i < length columns) × (c ≡ get_or columns i c)
     × (string_bytes name ≡ string_bytes c.name) × (cell_read c fields ≡ Err why)
 
--- why an entry with these columns is no row: its id is not two numbers, it is too large for a table, memory ran out, or
--- the field of a column is not read
+-- why the entry `e` is not a row of these columns: the id is not two numbers or is too large, memory ran out,
+-- or a field could not be read
 abbrev pub IsFaultOf : List Column → Entry Pairs → Fault → Type 0
 IsFaultOf columns e faults.NotAnId = id_in e.0 ≡ None
 IsFaultOf columns e (faults.Table Memory) = Unit {0}
@@ -44,7 +44,7 @@ IsFaultOf columns e (faults.Table (Refused why)) = ⊥
 IsFaultOf columns e (faults.Field first second name why) =
     (key_in e.0 ≡ (first, second)) × IsWhyOfOne columns e.1 (cells.Field name why)
 
--- the entry itself cannot be a row: its id or a field does not fit the table
+-- whether the entry itself cannot be a row because its id or a field does not fit the table
 abbrev pub is_unfit : Fault → Bool
 is_unfit faults.NotAnId = true
 is_unfit (faults.Table Memory) = false
@@ -53,6 +53,6 @@ is_unfit (faults.Table (OtherText first second)) = false
 is_unfit (faults.Table (Refused why)) = false
 is_unfit (faults.Field first second name why) = true
 
--- the entry itself cannot be a row in these columns, for this reason
+-- the entry `e` itself cannot be a row of these columns, for this reason
 abbrev pub IsUnfitFor : List Column → Entry Pairs → Fault → Type 0
 IsUnfitFor columns e fault = (is_unfit fault ≡ true) × IsFaultOf columns e fault

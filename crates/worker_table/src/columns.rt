@@ -13,7 +13,7 @@ use std::alloc::{AllocError, AllocFailed, Global};
 use stream_in_place::FieldError;
 use worker::EntryRef;
 
-/// Why an entry has no values.
+/// Why an entry has no values for a row.
 #[derive(Debug, Drop)]
 pub enum CellsError {
     Memory,
@@ -21,7 +21,7 @@ pub enum CellsError {
     Field(String, FieldError),
 }
 
-/// Why a value is not read.
+/// Why the value of a column could not be read.
 #[derive(Clone, Copy, Debug)]
 pub enum ReadError {
     Memory,
@@ -58,7 +58,7 @@ impl<T: Drop> From<AllocFailed<T>> for CellsError {
     }
 }
 
-/// The values of an entry: one in each column, or one text of all fields if there are no columns.
+/// Returns the values of an entry: one for each column, or one text of all fields if there are no columns.
 pub fn entry_cells(
     alloc: Global,
     columns: &[Column],
@@ -93,7 +93,7 @@ fn push_cells(
     Ok(())
 }
 
-/// The value in this column.
+/// Returns the value of an entry in `column`.
 fn column_cell(alloc: Global, column: &Column, entry: &EntryRef<'_>) -> Result<Cell, CellsError>
     ensures ok { IfOk result (λ cell. cell_of cell ≡ cell_in (pairs_or_none entry.now.fields) column.now) }
     ensures err { IfErr result (IsWhyOf column.now (pairs_or_none entry.now.fields)) }
@@ -105,7 +105,7 @@ fn column_cell(alloc: Global, column: &Column, entry: &EntryRef<'_>) -> Result<C
     }
 }
 
-/// The value in this column, if it has one; a missing field is null, if the column is optional.
+/// Reads the value of an entry in `column`. A missing field is null if the column is optional.
 fn read_cell(alloc: Global, column: &Column, entry: &EntryRef<'_>) -> Result<Cell, ReadError>
     ensures ok { IfOk result (λ cell. cell_read column.now (pairs_or_none entry.now.fields) ≡ Ok (cell_of cell)) }
     ensures err { IfErr result (IsWhy (cell_read column.now (pairs_or_none entry.now.fields))) }
@@ -116,7 +116,7 @@ fn read_cell(alloc: Global, column: &Column, entry: &EntryRef<'_>) -> Result<Cel
     }
 }
 
-/// The value of the last field of this name.
+/// Reads the value of the last field with this name.
 fn read_value(
     alloc: Global,
     kind: Kind,
@@ -134,7 +134,7 @@ fn read_value(
     }
 }
 
-/// The value as a text.
+/// Reads the value as a text.
 fn read_text(alloc: Global, name: &[u8], entry: &EntryRef<'_>) -> Result<Cell, ReadError>
     ensures ok { IfOk result (λ cell. value_read Kind.Text (last_with name.now (pairs_or_none entry.now.fields))
         ≡ Ok (cell_of cell)) }
@@ -146,7 +146,7 @@ fn read_text(alloc: Global, name: &[u8], entry: &EntryRef<'_>) -> Result<Cell, R
     }
 }
 
-/// The value as an integer.
+/// Reads the value as an integer.
 fn read_integer(name: &[u8], entry: &EntryRef<'_>) -> Result<Cell, ReadError>
     ensures ok { IfOk result (λ cell. value_read Kind.Integer (last_with name.now (pairs_or_none entry.now.fields))
         ≡ Ok (cell_of cell)) }
@@ -158,7 +158,7 @@ fn read_integer(name: &[u8], entry: &EntryRef<'_>) -> Result<Cell, ReadError>
     }
 }
 
-/// The value as bytes.
+/// Reads the value as bytes.
 fn read_blob(alloc: Global, name: &[u8], entry: &EntryRef<'_>) -> Result<Cell, ReadError>
     ensures ok { IfOk result (λ cell. value_read Kind.Blob (last_with name.now (pairs_or_none entry.now.fields))
         ≡ Ok (cell_of cell)) }

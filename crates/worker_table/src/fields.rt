@@ -8,8 +8,8 @@ use std::alloc::{AllocError, Global};
 use stream_in_place::FieldsRef;
 use worker::entry_json::push_fields;
 
-/// The text of fields: `[["name","value"],..]`, in order and with repeated ones, where a name or a value that
-/// is not UTF-8 is `{"base64":"..."}`.
+/// Returns the fields as JSON: `[["name","value"],..]`, in order and including repeated names. A name or a
+/// value that is not UTF-8 is written as `{"base64":"..."}`.
 pub fn fields_text(alloc: Global, fields: FieldsRef<'_>) -> Result<Vec<u8>, AllocError>
     ensures { IfOk result (λ text. text.items ≡ print (fields_tokens fields.entry)) }
 {

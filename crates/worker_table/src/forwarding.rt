@@ -1,4 +1,4 @@
-//! Entries as rows of a table that are also sent to another stream.
+//! A handler that stores entries as rows of a table and forwards them to another stream.
 ghost use Rattle.std.specs.Prelude.{◌≡◌, ◌↔◌, IsTrue, ◌++◌, ◌∷◌, ◌⊎◌, [], ◌+◌, ◌-◌, ◌^◌, false, min, true, IfErr, IfSome, IsSomeAnd, OnErr, OnOk, string_bytes};
 ghost use Rattle.worker_table.specs.RowTable.OfPost.{all_posted};
 ghost use Rattle.worker_table.specs.RowTable.Posts.{rows_in, rows_known, with_known_posted};
@@ -18,36 +18,37 @@ use std::alloc::Global;
 use std::io::{Read, Write};
 use worker::{EntryRef, Handler, NotCommitted, Verdict};
 
-/// A handler that stores entries as rows of a table, as `Rows` does, and forwards them: each is added to
-/// another stream under its own id, with its own fields, after it was committed.
+/// A handler that stores entries as rows of a table, as `Rows` does, and forwards them. After the commit each
+/// entry is added to another stream under its own id, with its own fields.
 #[derive(Drop)]
 pub struct Forwarding<T: WithOutbox + Drop> {
     table: T,
-    /// The columns of its rows; if there are none, a row has one text of all fields.
+    /// The columns of the table. If there are none, a row has one text of all fields.
     columns: Vec<Column>,
     /// The key of the stream that entries are forwarded to.
     target: String,
-    /// The rows of the entries that are done and not committed.
+    /// The rows of the entries that are done and not committed, with their commands.
     loose: Vec<PostedRow>,
-    /// Whether an entry that cannot be a row is left pending, and the worker goes on.
+    /// Whether an entry that cannot be a row is left pending, so that the worker goes on.
     leaves_unfit: bool,
-    /// How many entries were delivered, how many were done, and how many of them are committed.
+    /// The number of entries that were delivered, that were done, and that were done and committed.
     pub seen: u64,
     pub done: u64,
     pub committed: u64,
-    /// How many entries were left pending.
+    /// The number of entries left pending.
     pub left: u64,
-    /// How many entries were forwarded, with a reply.
+    /// The number of entries that were forwarded and got a reply.
     pub sent: u64,
-    /// Why the handler stopped, left an entry pending last, or did not commit.
+    /// Why the handler stopped, did not commit, or left the last pending entry.
     pub fault: Option<Fault>,
-    /// The id of the entry at which it stopped, or that it left pending last, if there was memory to keep the id.
+    /// The id of the entry at which the handler stopped, or of the last entry left pending, if there was memory
+    /// to keep it.
     pub undone: Option<String>,
 }
 
 impl<T: WithOutbox + Drop> Forwarding<T> {
-    /// A handler over this table with no rows yet. Its rows have a value in each of these columns, or, if there
-    /// are none, one text of all fields. They are forwarded to the stream `target`.
+    /// Creates a handler over `table` with no gathered rows. A row has a value for each column, or one text of
+    /// all fields if there are no columns. Entries are forwarded to the stream `target`.
     pub fn new(alloc: Global, table: T, columns: Vec<Column>, target: String) -> Forwarding<T>
         ensures { (result.table ≡ table) × (result.columns ≡ columns) × (result.target ≡ target)
             × (result.loose.items ≡ []) × (result.seen ≡ 0) × (result.done ≡ 0) × (result.committed ≡ 0)
@@ -70,7 +71,7 @@ impl<T: WithOutbox + Drop> Forwarding<T> {
         }
     }
 
-    /// The stream that entries are forwarded to.
+    /// Returns the stream that entries are forwarded to.
     pub fn target(&self) -> &str
         ensures { result.now ≡ string_bytes self.now.target }
     {
@@ -91,14 +92,14 @@ impl<T: WithOutbox + Drop> Forwarding<T> {
         self.loose.is_empty()
     }
 
-    /// The table.
+    /// Returns the table.
     pub fn into_table(self) -> T
         ensures { result ≡ self.table }
     {
         self.table
     }
 
-    /// Forwards the entries that are committed and have no reply yet, as `send_posts` does.
+    /// Forwards the committed entries that got no reply yet, as `send_posts` does.
     pub fn send<R: Read + Drop, W: Write + Drop>(
         &mut self,
         alloc: Global,
@@ -118,7 +119,7 @@ impl<T: WithOutbox + Drop> Forwarding<T> {
         send_posts(alloc, &mut self.table, connection, &mut self.sent)
     }
 
-    /// Adds the row of an entry, and the command that is sent for it.
+    /// Adds the row of an entry to the gathered rows, with the command that forwards the entry.
     fn gather(&mut self, alloc: Global, entry: &EntryRef<'_>) -> Result<(), Fault>
         ensures ok { OnOk result (all_posted self.new.loose.items ≡ all_posted self.old.loose.items
             ++ posted_in (string_bytes self.old.target) self.old.columns.items (pair_of entry.now) ∷ []) }
@@ -142,7 +143,7 @@ impl<T: WithOutbox + Drop> Forwarding<T> {
     }
 }
 
-/// The fault of an entry whose command could not be encoded.
+/// Returns the fault of an entry whose command could not be encoded.
 fn convert_pack_error(error: PackError) -> Fault
     ensures { is_unfit result ≡ false }
 {
@@ -161,8 +162,8 @@ impl<T: WithOutbox + Drop> Handler for Forwarding<T> {
 
     ghost history = { λ h. forwarding_kept h.columns.items (all_posted h.loose.items) (T.committed h.table) };
 
-    /// Adds the row of the entry and the command that is sent for it, and returns that it is done; if it cannot, the
-    /// worker stops.
+    /// Adds the row of the entry and the command that forwards it to the gathered rows, and returns `Done`. If
+    /// the entry cannot be a row, it is left pending if `leave_unfit` was set. Otherwise the worker stops.
     fn handle(&mut self, alloc: Global, entry: &EntryRef<'_>) -> Verdict
         ensures posted { result ≡ Verdict.Done → all_posted self.new.loose.items ≡ all_posted self.old.loose.items
             ++ posted_in (string_bytes self.old.target) self.old.columns.items (pair_of entry.now) ∷ [] }
@@ -198,8 +199,8 @@ impl<T: WithOutbox + Drop> Handler for Forwarding<T> {
         }
     }
 
-    /// Inserts the rows that were added, with their posts, in one transaction. After an `Err` the
-    /// table is as it was, and the next commit inserts these rows too.
+    /// Inserts the gathered rows with their posts in one transaction. After an `Err` the table is unchanged,
+    /// and the next commit inserts these rows too.
     fn commit(&mut self, alloc: Global) -> Result<(), NotCommitted>
         ensures posted { OnOk result (T.committed self.new.table
             ≡ with_known_posted (all_posted self.old.loose.items) (T.committed self.old.table)) }

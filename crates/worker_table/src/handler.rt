@@ -1,4 +1,4 @@
-//! Entries as rows of a table.
+//! A handler that stores entries as rows of a table.
 ghost use Rattle.std.specs.Prelude.{◌≡◌, ◌↔◌, IsTrue, ◌++◌, ◌∷◌, [], ◌+◌, ◌-◌, ◌^◌, ◌<◌, false, min, true, ℕ, List, IfErr, IfOk, IfSome, IsSomeAnd, OnErr, OnOk, string_bytes};
 ghost use Rattle.worker_table.specs.RowTable.OfRow.{row_of, rows_of};
 ghost use Rattle.worker_table.specs.RowTable.Rows.{AreKnown, LeavesJust, LeavesOldOr, with_known};
@@ -25,7 +25,7 @@ pub enum Fault {
     /// The error of the table.
     #[error("{0}")]
     Table(TableError),
-    /// The field of this name of this entry has no value for its column.
+    /// The field `name` of the entry has no value for its column.
     #[error("the field {name} of the entry {first}-{second}: {why}")]
     Field {
         first: u64,
@@ -36,7 +36,7 @@ pub enum Fault {
 }
 
 impl Fault {
-    /// Whether the entry itself cannot be a row: its id or a field does not fit the table.
+    /// Whether the entry itself cannot be a row because its id or a field does not fit the table.
     pub fn is_unfit(&self) -> bool
         ensures { result ≡ is_unfit self.now }
     {
@@ -51,26 +51,27 @@ impl Fault {
 #[derive(Drop)]
 pub struct Rows<T: Table + Drop> {
     table: T,
-    /// The columns of its rows; if there are none, a row has one text of all fields.
+    /// The columns of the table. If there are none, a row has one text of all fields.
     columns: Vec<Column>,
     /// The rows of the entries that are done and not committed.
     loose: Vec<Row>,
-    /// Whether an entry that cannot be a row is left pending, and the worker goes on.
+    /// Whether an entry that cannot be a row is left pending, so that the worker goes on.
     leaves_unfit: bool,
-    /// How many entries were delivered, how many were done, and how many of them are committed.
+    /// The number of entries that were delivered, that were done, and that were done and committed.
     pub seen: u64,
     pub done: u64,
     pub committed: u64,
-    /// How many entries were left pending.
+    /// The number of entries left pending.
     pub left: u64,
-    /// Why the handler stopped, left an entry pending last, or did not commit.
+    /// Why the handler stopped, did not commit, or left the last pending entry.
     pub fault: Option<Fault>,
-    /// The id of the entry at which it stopped, or that it left pending last, if there was memory to keep the id.
+    /// The id of the entry at which the handler stopped, or of the last entry left pending, if there was memory
+    /// to keep it.
     pub undone: Option<String>,
 }
 
 impl<T: Table + Drop> Rows<T> {
-    /// A handler over this table with no rows yet. A row has one text of all fields.
+    /// Creates a handler over `table` with no gathered rows. A row has one text of all fields.
     pub fn new(alloc: Global, table: T) -> Rows<T>
         ensures { (result.table ≡ table) × (result.columns.items ≡ []) × (result.loose.items ≡ [])
             × (result.seen ≡ 0) × (result.done ≡ 0) × (result.committed ≡ 0)
@@ -79,8 +80,8 @@ impl<T: Table + Drop> Rows<T> {
         Rows::with_columns(alloc, table, Vec::new(alloc))
     }
 
-    /// A handler over this table, whose rows have a value in each of these columns. If there are none, a row
-    /// has one text of all fields.
+    /// Creates a handler over `table` with no gathered rows. A row has a value for each column. If there are no
+    /// columns, a row has one text of all fields.
     pub fn with_columns(alloc: Global, table: T, columns: Vec<Column>) -> Rows<T>
         ensures { (result.table ≡ table) × (result.columns ≡ columns) × (result.loose.items ≡ [])
             × (result.seen ≡ 0) × (result.done ≡ 0) × (result.committed ≡ 0)
@@ -114,14 +115,14 @@ impl<T: Table + Drop> Rows<T> {
         self.loose.is_empty()
     }
 
-    /// The table.
+    /// Returns the table.
     pub fn into_table(self) -> T
         ensures { result ≡ self.table }
     {
         self.table
     }
 
-    /// Adds the row of an entry.
+    /// Adds the row of an entry to the gathered rows.
     fn gather(&mut self, alloc: Global, entry: &EntryRef<'_>) -> Result<(), Fault>
         ensures ok { OnOk result (rows_of self.new.loose.items
             ≡ rows_of self.old.loose.items ++ row_in self.old.columns.items (pair_of entry.now) ∷ []) }
@@ -148,7 +149,8 @@ impl<T: Table + Drop> Handler for Rows<T> {
 
     ghost history = { λ h. kept_by h.columns.items h.loose.items (T.committed h.table) };
 
-    /// Adds the row of the entry, and returns that it is done; if it cannot, the worker stops.
+    /// Adds the row of the entry to the gathered rows, and returns `Done`. If the entry cannot be a row, it is
+    /// left pending if `leave_unfit` was set. Otherwise the worker stops.
     fn handle(&mut self, alloc: Global, entry: &EntryRef<'_>) -> Verdict
         ensures history { ⟦<Rows<T> as Handler>⟧.history self.new
             ≡ kept_too (⟦<Rows<T> as Handler>⟧.history self.old) (pair_of entry.now) (verdict_of result) }
@@ -181,9 +183,8 @@ impl<T: Table + Drop> Handler for Rows<T> {
         }
     }
 
-    /// Inserts the rows that were added, in one transaction. After an Ok each of them is in the table with its
-    /// own fields, also after a crash. After an `Err` the table is as it was, and the next commit inserts these
-    /// rows too.
+    /// Inserts the gathered rows in one transaction. After `Ok` the table has each row with its own fields,
+    /// also after a crash. After an `Err` the table is unchanged, and the next commit inserts these rows too.
     fn commit(&mut self, alloc: Global) -> Result<(), NotCommitted>
         ensures there { OnOk result (AreKnown (rows_of self.old.loose.items) (T.committed self.new.table)) }
         ensures durable { OnOk result (LeavesJust (T.committed self.new.table) (T.may_leave self.new.table)) }
@@ -208,7 +209,7 @@ impl<T: Table + Drop> Handler for Rows<T> {
     }
 }
 
-/// The row of an entry. An id of 2^63 milliseconds or more is refused, and so is such a sequence number.
+/// Returns the row of an entry. An id is an error if its milliseconds or its sequence number is at least 2^63.
 pub fn row_of_entry(alloc: Global, columns: &[Column], entry: &EntryRef<'_>) -> Result<Row, Fault>
     ensures row { IfOk result (λ row. row_of row ≡ row_in columns.now (pair_of entry.now)) }
     ensures small { IfOk result (λ row. (row.first < 2 ^ 63) × (row.second < 2 ^ 63)) }

@@ -1,15 +1,16 @@
 //! A worker's handler that stores entries as rows of a table.
 //!
-//! The key of a row is the id of its entry, two numbers. Its values are one text of all fields, as JSON, or, if
-//! columns are named, the fields of these names as texts, integers and bytes. A batch is one transaction of the
-//! table, and its entries are acknowledged after the commit. An entry whose id is there already is skipped if
-//! it has the same fields, and otherwise is an error. So each id is one row, whatever is redelivered, to which
-//! consumer and how often.
+//! The key of a row is the id of the entry, two numbers. If no columns are named, the row has one value: a text
+//! with all fields as JSON. Otherwise each column has the field of its name, as a text, an integer or bytes.
 //!
-//! `Forwarding` also forwards entries to another stream. What it sends is in an outbox beside the table,
-//! inserted in the transaction of the row. After the commit `send_posts` adds each under its own id, and then
-//! removes it from the outbox. So a crash loses none, and a command that is sent again is refused because of
-//! its id.
+//! A batch is one transaction of the table. The entries are acknowledged after the commit. An entry whose id
+//! already has a row is skipped if it has the same fields. Otherwise it is an error. Therefore each id has one
+//! row, however often and to whichever consumer the entry is redelivered.
+//!
+//! `Forwarding` also forwards entries to another stream. The commands to send are in an outbox beside the
+//! table. They are inserted in the transaction of the row. After the commit `send_posts` adds each entry under
+//! its own id, and then removes the command from the outbox. Therefore a crash loses no command, and the server
+//! refuses a command that is sent again because of its id.
 #![tactic(auto)]
 
 mod columns;

@@ -12,7 +12,7 @@ use std::alloc::{AllocError, Global};
 use stream_in_place::FieldsRef;
 use worker::EntryRef;
 
-/// The row of an entry, with the command that forwards it to this stream.
+/// Returns the row of an entry, with the command that forwards the entry to `target`.
 pub fn posted_row(
     alloc: Global,
     target: &str,
@@ -36,7 +36,8 @@ pub fn posted_row(
     })
 }
 
-/// `XADD target id name value ..`: the entry is added under its own id, with its own fields in order.
+/// Returns the command `XADD target id name value ..`. It adds the entry under its own id, with its own fields
+/// in order.
 fn add_command(alloc: Global, target: &str, entry: &EntryRef<'_>) -> Result<Vec<u8>, PackError>
     ensures { IfOk result (λ bytes. bytes.items ≡ command_bytes (add_words target.now (pair_of entry.now))) }
 {
@@ -45,7 +46,7 @@ fn add_command(alloc: Global, target: &str, entry: &EntryRef<'_>) -> Result<Vec<
     pack_command(alloc, &("XADD", target, entry.id(), fields.as_slice()))
 }
 
-/// Appends the names and values in turn.
+/// Appends each name followed by its value.
 fn push_fields<'a>(out: &mut Vec<&'a [u8]>, fields: FieldsRef<'a>) -> Result<(), AllocError>
     ensures { OnOk result (flat_map (λ word. word.now ∷ []) out.new.items
         ≡ flat_map (λ word. word.now ∷ []) out.old.items ++ field_words fields.entry) }

@@ -1,11 +1,11 @@
-//! Rows in a table, by keys of two numbers.
+//! Rows in a table whose keys are pairs of numbers.
 //!
 //! A `Table` is a table of a database with transactions: begin, insert or find rows, and commit or roll back.
-//! `put_all` inserts rows in one transaction. A row whose key is there is skipped if it has the same values,
-//! and is an error if it has others.
+//! `put_all` inserts rows in one transaction. A row whose key exists is skipped if the existing row has the
+//! same values, and otherwise is an error.
 //!
-//! `WithOutbox` is a table that has an outbox too: posts, each a command that is sent for a row.
-//! `put_all_posted` inserts rows with their posts, in one transaction.
+//! A `WithOutbox` is a table that also has an outbox. The outbox contains posts: the commands to send for rows.
+//! `put_all_posted` inserts rows with their posts in one transaction.
 
 mod cell;
 mod error;

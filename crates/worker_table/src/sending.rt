@@ -1,4 +1,4 @@
-//! Sending what is queued for another stream.
+//! Sends the queued commands to the server.
 ghost use Rattle.std.specs.Prelude.{◌≡◌, ◌⊎◌, ℕ, List, false, true, IfOk, IfSome, OnErr, OnOk, string_bytes};
 ghost use Rattle.redis_resp.specs.Value.{tree};
 ghost use Rattle.redis_wire.specs.Packed.{command_bytes};
@@ -15,23 +15,23 @@ use std::alloc::Global;
 use std::io::{Read, Write};
 use thiserror::Error;
 
-/// The error of `XADD` if the id is not above the last one.
+/// The error of `XADD` if the id is not above the last id of the stream.
 const TOO_SMALL: &[u8] =
     b"ERR The ID specified in XADD is equal or smaller than the target stream top item";
 
-/// Why not all that is queued was sent. Commands that got a reply before are removed, except after `Table`:
-/// then none is.
+/// Why some queued commands were not sent. Commands that got a reply before the error are removed, except after
+/// `Table`: then none is removed.
 #[derive(Debug, Drop, Error)]
 pub enum SendError {
     /// The error of the table.
     #[error("{0}")]
     Table(TableError),
-    /// The post of this key stays queued, and each one after it.
+    /// The post of this key stays queued, and so does each post after it.
     #[error("{first}-{second}: {error}")]
     Post {
         first: u64,
         second: u64,
-        /// The stream to which its command adds, if there was memory to read it.
+        /// The stream that the command adds to, if there was memory to read its name.
         target: Option<String>,
         error: PostError,
     },
@@ -49,7 +49,7 @@ pub enum PostError {
     /// The reply does not fit the command.
     #[error("no answer of a command")]
     NotAnAnswer,
-    /// The id is not above the last one of the target, and no entry there has it.
+    /// The id is not above the last id of the target, and the target has no entry with this id.
     #[error("its id is not above the last one, and no entry has it")]
     NotThere,
 }
@@ -64,11 +64,12 @@ impl From<ConnectionError> for PostError {
     }
 }
 
-/// Sends what is queued, in the order of keys, one command after the other, and removes each after its reply. A
-/// command whose id is not above the last one counts as executed if an entry of this id is there.
+/// Sends the queued commands one by one, in the order of their keys. Removes each command after its reply. A
+/// command whose id is not above the last id counts as executed if the target has an entry with this id.
 ///
-/// All of it is one transaction. If the table returns an error, it is rolled back, and all of it is sent again.
-/// After any other `Err` the commands that got a reply before are removed. `sent` counts the replies.
+/// All changes are one transaction. If the table returns an error, the transaction is rolled back, and the next
+/// call sends the commands again. After any other `Err` the commands that got a reply are removed. `sent`
+/// counts the replies.
 pub fn send_posts<T: WithOutbox, R: Read + Drop, W: Write + Drop>(
     alloc: Global,
     table: &mut T,
@@ -90,7 +91,7 @@ pub fn send_posts<T: WithOutbox, R: Read + Drop, W: Write + Drop>(
     }
 }
 
-/// Sends what is queued and commits, and returns how the sending ended. An `Err` leaves the transaction open.
+/// Sends the queued commands, and commits. Returns how the sending ended. An `Err` leaves the transaction open.
 fn send_and_commit<T: WithOutbox, R: Read + Drop, W: Write + Drop>(
     alloc: Global,
     table: &mut T,
@@ -108,7 +109,7 @@ fn send_and_commit<T: WithOutbox, R: Read + Drop, W: Write + Drop>(
     Ok(ended)
 }
 
-/// Sends posts until there is none, and returns how it ended.
+/// Sends posts until none is left or one fails. Returns how the sending ended.
 fn send_each<T: WithOutbox, R: Read + Drop, W: Write + Drop>(
     alloc: Global,
     table: &mut T,
@@ -138,8 +139,8 @@ fn send_each<T: WithOutbox, R: Read + Drop, W: Write + Drop>(
     Err(TableError::Refused("too many posts"))
 }
 
-/// The stream to which the command of a post adds: that of the post's query, if this is `XRANGE target id id`, made
-/// of the id of the post. It is also `None` if memory runs out.
+/// Returns the stream that the command of a post adds to. It is read from the post's query `XRANGE target id
+/// id`. Returns `None` if the query has another form, or if memory runs out.
 pub fn target_of(alloc: Global, post: &Post) -> Option<String>
     ensures { IfSome result (λ target. (id : List ℕ) × ((post_of post.now).question
         ≡ command_bytes (look_words (string_bytes target) id))) }
@@ -157,7 +158,7 @@ pub fn target_of(alloc: Global, post: &Post) -> Option<String>
     String::from_str(alloc, target).ok()
 }
 
-/// Sends a post. It is `Ok` if the server executes its command, or an entry of its id is there.
+/// Sends a post. Returns `Ok` if the server executed the command, or if the target has an entry with its id.
 fn send_post<R: Read + Drop, W: Write + Drop>(
     alloc: Global,
     connection: &mut Connection<R, W>,
@@ -172,7 +173,8 @@ fn send_post<R: Read + Drop, W: Write + Drop>(
     Ok(())
 }
 
-/// Whether the reply is the error that the id is not above the last one; otherwise the command was executed.
+/// Returns true if the reply is the error that the id is not above the last one. Returns false if the command
+/// was executed.
 fn is_too_small(reply: Reply) -> Result<bool, PostError>
     ensures small { IfOk result (λ small. small ≡ true → is_too_small (answer reply) ≡ true) }
     ensures taken { IfOk result (λ small. small ≡ false → is_taken (answer reply) ≡ true) }
@@ -189,7 +191,7 @@ fn is_too_small(reply: Reply) -> Result<bool, PostError>
     }
 }
 
-/// Whether the stream has an entry with the id of this post: one `XRANGE`.
+/// Checks with `XRANGE` that the stream has an entry with the id of `post`.
 fn find_entry<R: Read + Drop, W: Write + Drop>(
     alloc: Global,
     connection: &mut Connection<R, W>,
@@ -205,7 +207,7 @@ fn find_entry<R: Read + Drop, W: Write + Drop>(
     Err(PostError::NotThere)
 }
 
-/// Whether the reply has an entry.
+/// Whether the reply contains an entry.
 fn shows_one(reply: Reply) -> Result<bool, PostError>
     ensures { IfOk result (λ shown. shown ≡ true → shows_one (answer reply) ≡ true) }
 {
@@ -216,7 +218,7 @@ fn shows_one(reply: Reply) -> Result<bool, PostError>
     }
 }
 
-/// Whether the value is an array with an entry in it.
+/// Whether the value is an array that contains an entry.
 fn has_entry(value: Value) -> Result<bool, PostError>
     ensures { IfOk result (λ has. has ≡ true → has_entry (tree value) ≡ true) }
 {
@@ -226,7 +228,7 @@ fn has_entry(value: Value) -> Result<bool, PostError>
     }
 }
 
-/// Sends these bytes, and receives a reply.
+/// Sends bytes, and receives a reply.
 fn ask<R: Read + Drop, W: Write + Drop>(
     alloc: Global,
     connection: &mut Connection<R, W>,

@@ -2,8 +2,8 @@
 use Rattle.std.specs.Prelude.{◌≡◌, ◌++◌, ◌∷◌, List, Some, IsSome}
 use Rattle.worker_table.specs.RowTable.Rows.{Cell, Key, Row, find, with_rows, KeysApart, BeginsWith}
 
--- the law: a key that is there keeps its values, whatever is inserted; the first rows come first; distinct keys stay
--- distinct; the key of each inserted row is there; and rows may be inserted at once or in turn
+-- the law: An existing key keeps its values, whatever is inserted. The first rows remain first. Distinct keys
+-- remain distinct. The key of each inserted row is in the table. Rows may be inserted at once or one by one.
 pub record RowsArePutIn : Type 0 where
   pub stays : (rows more : List Row) (k : Key) (cells : List Cell) → find k rows ≡ Some cells
       → find k (with_rows rows more) ≡ Some cells

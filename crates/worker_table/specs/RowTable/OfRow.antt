@@ -12,18 +12,18 @@ cell_of (Integer n) = rows.integer n
 cell_of (Text bytes) = rows.text bytes.items
 cell_of (Blob bytes) = rows.blob bytes.items
 
--- these values, in order
+-- the values of the cells, in order
 abbrev pub cells_of : List memory.Cell → List rows.Cell
 cells_of cells = map cell_of cells
 
--- its key: its two numbers
+-- the key of the row: its two numbers
 abbrev pub key_of : Row → rows.Key
 key_of r = (r.first, r.second)
 
--- its key and its values
+-- the key and the values of the row
 abbrev pub row_of : Row → rows.Row
 row_of r = (key_of r, cells_of r.cells.items)
 
--- these rows, in order
+-- the keys and the values of the rows, in order
 abbrev pub rows_of : List Row → List rows.Row
 rows_of rs = map row_of rs

@@ -25,6 +25,6 @@ pub enum Kind {
 pub struct Column {
     pub name: String,
     pub kind: Kind,
-    /// Whether a row may have no value here.
+    /// Whether a row may have no value in this column.
     pub optional: bool,
 }

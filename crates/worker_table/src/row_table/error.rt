@@ -11,13 +11,13 @@ pub enum TableError {
     /// Out of memory.
     #[error("out of memory")]
     Memory,
-    /// A row of this key exists with other values.
+    /// A row with this key exists, with other values.
     #[error("a row of the key {first}-{second} is there with other fields")]
     OtherText { first: u64, second: u64 },
-    /// A number of this key is 2^63 or more.
+    /// A number of this key is at least 2^63.
     #[error("the key {first}-{second} is too large for the table")]
     KeyTooLarge { first: u64, second: u64 },
-    /// The database refused, for this reason.
+    /// The database refused the operation, for this reason.
     #[error("{0}")]
     Refused(&'static str),
 }

@@ -1,15 +1,17 @@
-//! What holds of inserted rows.
+//! Laws of inserted rows.
 ghost use Rattle.worker_table.specs.RowTable.Laws.{RowsArePutIn};
 ghost use Rattle.worker_table.specs.RowTable.Sent.{NoPostIsLost};
 
-/// A row of the table keeps its values and its position, whatever is inserted. No key is there twice, if none was
-/// at first. The key of each inserted row is there. Rows may be inserted at once, or some after others.
+/// An existing row keeps its values and its position, whatever is inserted. No key occurs twice, if no key did
+/// at first. The key of each inserted row is in the table. Inserting rows at once has the same effect as
+/// inserting them one by one.
 pub fn rows_are_put_in()
     ensures { RowsArePutIn }
 {}
 
-/// No post of an outbox is lost, over every schedule of transactions, crashes and replies. Each row was there
-/// first, or its post is there, or the reply to its command was received. No post is there before its row.
+/// No post of an outbox is lost, over every schedule of transactions, crashes and replies. For each row, the
+/// row existed at first, or its post is in the outbox, or the reply to its command was received. No post is in
+/// the outbox before its row is in the table.
 pub fn no_post_is_lost()
     ensures { NoPostIsLost }
 {}

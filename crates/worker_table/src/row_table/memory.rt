@@ -16,9 +16,9 @@ pub use outbox::MemoryOutbox;
 /// A table in memory. A crash leaves the rows of the last commit.
 #[derive(Drop)]
 pub struct MemoryTable {
-    /// The committed rows, and after them those that the open transaction inserted.
+    /// The committed rows, followed by the rows that the open transaction inserted.
     rows: Vec<Row>,
-    /// How many of the rows are committed.
+    /// The number of committed rows.
     committed: usize,
     is_open: bool,
     ghost within: { committed ≤ length rows.items },
@@ -26,7 +26,7 @@ pub struct MemoryTable {
 }
 
 impl MemoryTable {
-    /// A table without rows.
+    /// Creates a table without rows.
     pub fn new(alloc: Global) -> MemoryTable
         ensures rows { result.rows.items ≡ [] }
         ensures closed { result.is_open ≡ false }
@@ -38,14 +38,14 @@ impl MemoryTable {
         }
     }
 
-    /// The committed rows, in the order in which they were inserted.
+    /// Returns the committed rows, in the order in which they were inserted.
     pub fn rows(&self) -> &[Row]
         ensures { result.now ≡ take self.now.committed self.now.rows.items }
     {
         &self.rows[..self.committed]
     }
 
-    /// Finds the row of the same key.
+    /// Finds the row with the same key as `row`.
     fn find(&self, row: &Row) -> Option<&Row>
         ensures { option_map (λ found. cells_of found.now.cells.items) result
             ≡ find (key_of row.now) (rows_of self.now.rows.items) }
@@ -75,7 +75,7 @@ impl Table for MemoryTable {
 
     ghost is_open = { λ t. Some t.is_open };
 
-    /// Begins a transaction. It is an error if another one is open.
+    /// Begins a transaction. Returns an error if another transaction is open.
     fn begin(&mut self) -> Result<(), TableError> {
         if self.is_open {
             return Err(TableError::Refused("another transaction is open"));
@@ -93,7 +93,7 @@ impl Table for MemoryTable {
         Ok(true)
     }
 
-    /// Returns false, so that the rows are inserted one after the other.
+    /// Always returns false, so that the rows are inserted one by one.
     fn insert_many(&mut self, _alloc: Global, _rows: &[Row]) -> Result<bool, TableError> {
         Ok(false)
     }

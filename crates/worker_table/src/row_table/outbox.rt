@@ -12,12 +12,12 @@ use crate::row_table::post::{Post, PostedRow};
 use crate::row_table::row::Row;
 use std::alloc::Global;
 
-/// A table of rows with an outbox beside it, in a database whose transactions are over both.
+/// A table of rows with an outbox beside it, in a database whose transactions change both.
 ///
-/// Its clauses are those of a database whose disk is honest: after any crash a transaction is there completely
-/// or not at all, and after an Ok of its commit it is there.
+/// The contracts assume that the disk is honest. Then any crash leaves a transaction completely or not at all.
+/// After a successful commit any crash leaves the transaction completely.
 pub trait WithOutbox {
-    /// The rows and the posts as the transaction has them, if they are known.
+    /// The rows and the posts in the open transaction, if they are known.
     ghost seen: { Self → Option posts.Stored };
 
     /// The rows and the posts of the last commit, if they are known.
@@ -26,7 +26,7 @@ pub trait WithOutbox {
     /// The rows and posts that a crash at this moment may leave.
     ghost may_leave: { Self → posts.Stored → Type 0 };
 
-    /// Whether a transaction is open, if it is known.
+    /// Whether a transaction is open, if that is known.
     ghost is_open: { Self → Option Bool };
 
     /// Begins a transaction.
@@ -35,7 +35,7 @@ pub trait WithOutbox {
         ensures committed { committed self.new ≡ committed self.old }
         ensures crash { LeavesNoOther (may_leave self.old) (may_leave self.new) };
 
-    /// Inserts a row, unless its key is there. Returns whether it was inserted.
+    /// Inserts a row, unless its key exists. Returns whether the row was inserted.
     fn insert(&mut self, alloc: Global, row: &Row) -> Result<bool, TableError>
         ensures seen { OnOk result (seen self.new
             ≡ option_map (λ s. with_stored s (row_of row.now)) (seen self.old)) }
@@ -44,7 +44,7 @@ pub trait WithOutbox {
         ensures committed { committed self.new ≡ committed self.old }
         ensures crash { LeavesNoOther (may_leave self.old) (may_leave self.new) };
 
-    /// Whether the row of this key is there, with the same values.
+    /// Whether the table has a row with the same key and the same values.
     fn holds(&mut self, alloc: Global, row: &Row) -> Result<bool, TableError>
         ensures seen { OnOk result (seen self.new ≡ seen self.old) }
         ensures told { IfOk result (λ is_there. IfSome (seen self.old)
@@ -52,14 +52,14 @@ pub trait WithOutbox {
         ensures committed { committed self.new ≡ committed self.old }
         ensures crash { LeavesNoOther (may_leave self.old) (may_leave self.new) };
 
-    /// Inserts the post of this row. It is an error if a post of its key is there.
+    /// Inserts the post of a row. Returns an error if a post with its key exists.
     fn enqueue(&mut self, alloc: Global, row: &PostedRow) -> Result<(), TableError>
         ensures seen { OnOk result (seen self.new
             ≡ option_map (λ s. with_post s (posts.post_for (posted_of row.now))) (seen self.old)) }
         ensures committed { committed self.new ≡ committed self.old }
         ensures crash { LeavesNoOther (may_leave self.old) (may_leave self.new) };
 
-    /// The post of the first key, in the order of keys; none if there is no post.
+    /// Returns the post with the smallest key, or `None` if there are no posts.
     fn first(&mut self, alloc: Global) -> Result<Option<Post>, TableError>
         ensures seen { OnOk result (seen self.new ≡ seen self.old) }
         ensures first { IfOk result (λ found. IfSome (seen self.old)
@@ -67,14 +67,14 @@ pub trait WithOutbox {
         ensures committed { committed self.new ≡ committed self.old }
         ensures crash { LeavesNoOther (may_leave self.old) (may_leave self.new) };
 
-    /// Removes the post of this key.
+    /// Removes the post with the key of `post`.
     fn remove(&mut self, alloc: Global, post: &Post) -> Result<(), TableError>
         ensures seen { OnOk result (seen self.new
             ≡ option_map (λ s. without_post s (post_of post.now).key) (seen self.old)) }
         ensures committed { committed self.new ≡ committed self.old }
         ensures crash { LeavesNoOther (may_leave self.old) (may_leave self.new) };
 
-    /// Commits the transaction. After an Ok it is there after any crash.
+    /// Commits the transaction. After `Ok`, any crash leaves the transaction's changes.
     fn commit(&mut self) -> Result<(), TableError>
         ensures ok { OnOk result (committed self.new ≡ seen self.old) }
         ensures err { OnErr result (committed self.new ≡ committed self.old) }

@@ -7,19 +7,19 @@ use crate::row_table::row::Row;
 #[derive(Drop)]
 pub struct PostedRow {
     pub row: Row,
-    /// The command, as its bytes.
+    /// The bytes of the command.
     pub command: Vec<u8>,
-    /// The command that checks whether it was executed, as its bytes.
+    /// The bytes of the query that checks whether the command was executed.
     pub question: Vec<u8>,
 }
 
-/// The command that is to be sent for the row of a key.
+/// The command to send for the row with a key.
 #[derive(Clone, Drop)]
 pub struct Post {
     pub first: u64,
     pub second: u64,
-    /// The command, as its bytes.
+    /// The bytes of the command.
     pub command: Vec<u8>,
-    /// The command that checks whether it was executed, as its bytes.
+    /// The bytes of the query that checks whether the command was executed.
     pub question: Vec<u8>,
 }

@@ -8,11 +8,11 @@ use crate::row_table::row::Row;
 use crate::row_table::table::Table;
 use std::alloc::Global;
 
-/// How many rows are inserted by one statement.
+/// The number of rows that one statement inserts.
 pub const ROWS_AT_ONCE: usize = 50;
 
-/// Inserts rows in one transaction, and commits it. A row whose key is there is skipped if it has the same
-/// values, and otherwise is an error. After an `Err` the transaction is rolled back.
+/// Inserts rows in one transaction, and commits it. A row whose key exists is skipped if the existing row has
+/// the same values. Otherwise it is an error. After an `Err` the transaction is rolled back.
 pub fn put_all<T: Table>(alloc: Global, table: &mut T, rows: &[Row]) -> Result<(), TableError>
     ensures ok { OnOk result (T.committed table.new ≡ with_known (rows_of rows.now) (T.committed table.old)) }
     ensures there { OnOk result (AreKnown (rows_of rows.now) (T.committed table.new)) }
@@ -31,7 +31,7 @@ pub fn put_all<T: Table>(alloc: Global, table: &mut T, rows: &[Row]) -> Result<(
     }
 }
 
-/// Inserts the rows and commits. An `Err` leaves the transaction open.
+/// Inserts the rows, and commits. An `Err` leaves the transaction open.
 fn put_and_commit<T: Table>(alloc: Global, table: &mut T, rows: &[Row]) -> Result<(), TableError>
     ensures ok { OnOk result (T.committed table.new ≡ with_known (rows_of rows.now) (T.committed table.old)) }
     ensures there { OnOk result (AreKnown (rows_of rows.now) (T.committed table.new)) }
@@ -46,7 +46,7 @@ fn put_and_commit<T: Table>(alloc: Global, table: &mut T, rows: &[Row]) -> Resul
     table.commit()
 }
 
-/// Inserts rows, as many at once as one statement takes.
+/// Inserts rows, up to `ROWS_AT_ONCE` by each statement.
 fn put_each<T: Table>(alloc: Global, table: &mut T, rows: &[Row]) -> Result<(), TableError>
     ensures seen { OnOk result (T.seen table.new ≡ with_known (rows_of rows.now) (T.seen table.old)) }
     ensures there { OnOk result (AreKnown (rows_of rows.now) (T.seen table.new)) }
@@ -62,7 +62,7 @@ fn put_each<T: Table>(alloc: Global, table: &mut T, rows: &[Row]) -> Result<(), 
     Ok(())
 }
 
-/// Inserts rows at once, or one after the other if one of their keys is there.
+/// Inserts rows at once, or one by one if the table refuses to insert them at once.
 fn put_some<T: Table>(alloc: Global, table: &mut T, rows: &[Row]) -> Result<(), TableError>
     ensures seen { OnOk result (T.seen table.new ≡ with_known (rows_of rows.now) (T.seen table.old)) }
     ensures there { OnOk result (AreKnown (rows_of rows.now) (T.seen table.new)) }
@@ -75,7 +75,7 @@ fn put_some<T: Table>(alloc: Global, table: &mut T, rows: &[Row]) -> Result<(), 
     put_in_turn(alloc, table, rows)
 }
 
-/// Inserts rows, one after the other.
+/// Inserts rows one by one.
 fn put_in_turn<T: Table>(alloc: Global, table: &mut T, rows: &[Row]) -> Result<(), TableError>
     ensures seen { OnOk result (T.seen table.new ≡ with_known (rows_of rows.now) (T.seen table.old)) }
     ensures there { OnOk result (AreKnown (rows_of rows.now) (T.seen table.new)) }
@@ -88,7 +88,7 @@ fn put_in_turn<T: Table>(alloc: Global, table: &mut T, rows: &[Row]) -> Result<(
     Ok(())
 }
 
-/// Inserts a row, unless it is there. It is an error if its key is there with other values.
+/// Inserts a row, unless the row exists. Returns an error if the key exists with other values.
 fn put<T: Table>(alloc: Global, table: &mut T, row: &Row) -> Result<(), TableError>
     ensures seen { OnOk result (T.seen table.new
         ≡ with_known (row_of row.now ∷ []) (T.seen table.old)) }

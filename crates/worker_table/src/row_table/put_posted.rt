@@ -9,9 +9,9 @@ use crate::row_table::outbox::WithOutbox;
 use crate::row_table::post::PostedRow;
 use std::alloc::Global;
 
-/// Inserts rows with their posts in one transaction, and commits it. A row whose key is there is skipped with
-/// its post if it has the same values, and otherwise is an error. After an `Err` the transaction is rolled
-/// back.
+/// Inserts rows with their posts in one transaction, and commits it. A row whose key exists is skipped, with
+/// its post, if the existing row has the same values. Otherwise it is an error. After an `Err` the transaction
+/// is rolled back.
 pub fn put_all_posted<T: WithOutbox>(
     alloc: Global,
     table: &mut T,
@@ -35,7 +35,7 @@ pub fn put_all_posted<T: WithOutbox>(
     }
 }
 
-/// Inserts the rows and their posts and commits. An `Err` leaves the transaction open.
+/// Inserts the rows and their posts, and commits. An `Err` leaves the transaction open.
 fn put_posted_and_commit<T: WithOutbox>(
     alloc: Global,
     table: &mut T,
@@ -72,7 +72,7 @@ fn put_each_posted<T: WithOutbox>(
     Ok(())
 }
 
-/// Inserts a row and its post, unless it is there. It is an error if its key is there with other values.
+/// Inserts a row and its post, unless the row exists. Returns an error if the key exists with other values.
 fn put_posted<T: WithOutbox>(
     alloc: Global,
     table: &mut T,

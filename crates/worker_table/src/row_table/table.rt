@@ -9,12 +9,12 @@ use crate::row_table::error::TableError;
 use crate::row_table::row::Row;
 use std::alloc::Global;
 
-/// A table of rows by their keys, in a database with transactions.
+/// A table of rows with keys, in a database with transactions.
 ///
-/// Its clauses are those of a database whose disk is honest: after any crash a transaction is there completely
-/// or not at all, and after an Ok of its commit it is there.
+/// The contracts assume that the disk is honest. Then any crash leaves a transaction completely or not at all.
+/// After a successful commit any crash leaves the transaction completely.
 pub trait Table {
-    /// The rows as the transaction has them, in the order in which they were inserted, if they are known.
+    /// The rows in the open transaction, in the order in which they were inserted, if they are known.
     ghost seen: { Self → Option (List rows.Row) };
 
     /// The rows of the last commit, if they are known.
@@ -23,10 +23,10 @@ pub trait Table {
     /// The rows that a crash at this moment may leave.
     ghost may_leave: { Self → List rows.Row → Type 0 };
 
-    /// Whatever a crash leaves begins with the rows of the last commit, if they are known.
+    /// Any rows that a crash leaves begin with the rows of the last commit, if these are known.
     ghost begins: { (table : Self) → LeavesAll (committed table) (may_leave table) };
 
-    /// Whether a transaction is open, if it is known.
+    /// Whether a transaction is open, if that is known.
     ghost is_open: { Self → Option Bool };
 
     /// Begins a transaction.
@@ -35,7 +35,7 @@ pub trait Table {
         ensures committed { committed self.new ≡ committed self.old }
         ensures crash { LeavesNoOther (may_leave self.old) (may_leave self.new) };
 
-    /// Inserts a row, unless its key is there. Returns whether it was inserted.
+    /// Inserts a row, unless its key exists. Returns whether the row was inserted.
     fn insert(&mut self, alloc: Global, row: &Row) -> Result<bool, TableError>
         ensures seen { OnOk result (seen self.new
             ≡ option_map (λ rs. with_row rs (row_of row.now)) (seen self.old)) }
@@ -44,15 +44,15 @@ pub trait Table {
         ensures committed { committed self.new ≡ committed self.old }
         ensures crash { LeavesNoOther (may_leave self.old) (may_leave self.new) };
 
-    /// Inserts these rows at once, if none of their keys is there and no two are the same. Returns whether they
-    /// were inserted; if not, nothing is changed, and they may be inserted one after the other. A table may
-    /// always return false.
+    /// Inserts all rows at once, if none of their keys exists and no two keys are equal. Returns whether the
+    /// rows were inserted. If not, nothing has changed, and the rows may be inserted one by one. An
+    /// implementation may always return false.
     fn insert_many(&mut self, alloc: Global, rows: &[Row]) -> Result<bool, TableError>
         ensures seen { IfOk result (λ is_in. PutsIn is_in (rows_of rows.now) (seen self.old) (seen self.new)) }
         ensures committed { committed self.new ≡ committed self.old }
         ensures crash { LeavesNoOther (may_leave self.old) (may_leave self.new) };
 
-    /// Whether the row of this key is there, with the same values.
+    /// Whether the table has a row with the same key and the same values.
     fn holds(&mut self, alloc: Global, row: &Row) -> Result<bool, TableError>
         ensures seen { OnOk result (seen self.new ≡ seen self.old) }
         ensures told { IfOk result (λ is_there. IfSome (seen self.old)
@@ -60,7 +60,7 @@ pub trait Table {
         ensures committed { committed self.new ≡ committed self.old }
         ensures crash { LeavesNoOther (may_leave self.old) (may_leave self.new) };
 
-    /// Commits the transaction. After an Ok it is there after any crash.
+    /// Commits the transaction. After `Ok`, any crash leaves the transaction's changes.
     fn commit(&mut self) -> Result<(), TableError>
         ensures ok { OnOk result (committed self.new ≡ seen self.old) }
         ensures err { OnErr result (committed self.new ≡ committed self.old) }

@@ -23,7 +23,7 @@ pub struct MemoryOutbox {
 }
 
 impl MemoryOutbox {
-    /// A table without rows, and an outbox without posts.
+    /// Creates a table without rows, with an outbox without posts.
     pub fn new(alloc: Global) -> MemoryOutbox
         ensures rows { result.table.rows.items ≡ [] }
         ensures posts { result.committed.items ≡ [] }
@@ -35,14 +35,14 @@ impl MemoryOutbox {
         }
     }
 
-    /// The table.
+    /// Returns the table.
     pub fn table(&self) -> &MemoryTable
         ensures { result.now ≡ self.now.table }
     {
         &self.table
     }
 
-    /// The committed posts, in the order in which they were inserted.
+    /// Returns the committed posts, in the order in which they were inserted.
     pub fn posts(&self) -> &[Post]
         ensures { result.now ≡ self.now.committed.items }
     {
@@ -117,14 +117,14 @@ impl WithOutbox for MemoryOutbox {
     }
 }
 
-/// Whether the post has this key.
+/// Whether the post has the key `(first, second)`.
 fn has_key(post: &Post, first: u64, second: u64) -> bool
     ensures { result ≡ same_key (post_of post.now).key (first, second) }
 {
     post.first == first && post.second == second
 }
 
-/// Finds the post of the first key, in the order of keys; none if there is no post.
+/// Returns the post with the smallest key, or `None` if there are no posts.
 fn find_first(posts: &[Post]) -> Option<&Post>
     ensures { IsFirst (option_map (λ post. post_of post.now) result) (map post_of posts.now) }
 {
@@ -137,7 +137,7 @@ fn find_first(posts: &[Post]) -> Option<&Post>
     Some(first)
 }
 
-/// Whether the key of the first post is not after that of the second one.
+/// Whether the key of `a` is not after the key of `b`.
 fn is_in_order(a: &Post, b: &Post) -> bool
     ensures { result ≡ is_not_behind (post_of a.now).key (post_of b.now).key }
 {
