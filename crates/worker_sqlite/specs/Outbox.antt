@@ -10,7 +10,7 @@ use Rattle.sqlite.specs.declared.types.Value.TheVariants.{Int, Blob, Text}
 use Rattle.worker_table.specs.RowTable.Posts.{Post}
 use Rattle.worker_sqlite.specs.Statements.{Found, key_values, known_text}
 
--- the statement that creates it: its key is the key of a row
+-- the statement that creates the outbox, whose key is the key of a row
 abbrev pub outbox_create : List ℕ
 outbox_create = codes "CREATE TABLE outbox (milliseconds INTEGER NOT NULL, sequence INTEGER NOT NULL, command BLOB NOT NULL, question BLOB NOT NULL, PRIMARY KEY (milliseconds, sequence)) STRICT"
 
@@ -18,7 +18,7 @@ outbox_create = codes "CREATE TABLE outbox (milliseconds INTEGER NOT NULL, seque
 abbrev pub enqueue_text : List ℕ
 enqueue_text = codes "INSERT INTO outbox (milliseconds, sequence, command, question) VALUES (?1, ?2, ?3, ?4)"
 
--- the query that returns the post of the first key
+-- the query that returns the post with the smallest key
 abbrev pub first_text : List ℕ
 first_text = codes "SELECT milliseconds, sequence, command, question FROM outbox ORDER BY milliseconds, sequence LIMIT 1"
 
@@ -26,11 +26,11 @@ first_text = codes "SELECT milliseconds, sequence, command, question FROM outbox
 abbrev pub count_text : List ℕ
 count_text = codes "SELECT count(*) FROM outbox"
 
--- the statement that removes the post of a key
+-- the statement that removes the post with a key
 abbrev pub remove_text : List ℕ
 remove_text = codes "DELETE FROM outbox WHERE milliseconds = ?1 AND sequence = ?2"
 
--- a number that is not negative, as a value of SQL
+-- the natural number `n` as a value of SQL
 abbrev pub number_value : ℕ → Value
 number_value n = Int (pos n)
 
@@ -42,7 +42,7 @@ bytes_value bytes = Blob bytes
 abbrev pub post_values : Post → SqlRow
 post_values p = key_values p.key ++ bytes_value p.command ∷ bytes_value p.question ∷ []
 
--- the first four values of a row are those of this post
+-- the first four values of `row` are those of the post `p`
 pub record AreValues (row : SqlRow) (p : Post) : Type 0 where
   pub first : column row 0 ≡ number_value p.key.0
   pub second : column row 1 ≡ number_value p.key.1
@@ -50,25 +50,26 @@ pub record AreValues (row : SqlRow) (p : Post) : Type 0 where
   pub question : column row 3 ≡ bytes_value p.question
 
 module _ {S : Type 0} (g : Ghosts S) (old new : Held S) where
-  -- if the disk is honest, this query returned no row, or the first row that it returned has the values of this post
+  -- if the disk is honest, the query returned no row, or its first row has the values of the post `p`
   abbrev pub FoundPost : List ℕ → Option Post → Type 0
   FoundPost sql None = HasCleanDisk (state g new) → QueriesRow sql [] (state g old) (state g new) (Err QueryReturnedNoRows)
   FoundPost sql (Some p) = HasCleanDisk (state g new)
       → (row : SqlRow) × QueriesRow sql [] (state g old) (state g new) (Ok row) × AreValues row p
 
-  -- if the disk is honest, this query counted n posts
+  -- if the disk is honest, the query returned `count` as the number of posts
   abbrev pub Counts : ℕ → Type 0
   Counts count = HasCleanDisk (state g new)
       → (row : SqlRow) × QueriesRow count_text [] (state g old) (state g new) (Ok row) × (column row 0 ≡ number_value count)
 
-  -- if the disk is honest, the query returned this very statement as the one that created the outbox; or another one,
-  -- or none
+  -- `true`: if the disk is honest, the query returned `outbox_create` as the statement that created the outbox.
+  -- `false`: it returned another statement, or no row.
   abbrev pub ShowsOutbox : Bool → Type 0
   ShowsOutbox true = Found g old new known_text (Text (codes "outbox") ∷ []) (Some outbox_create)
   ShowsOutbox false = (known : Option (List ℕ)) × (known ≢ Some outbox_create) × Found g old new known_text (Text (codes "outbox") ∷ []) known
 
 module _ {S : Type 0} (g : Ghosts S) (old new : Held S) where
-  -- the queries of a database returned no outbox, or no post in it; or the number of posts, and the first one
+  -- `None`: the queries found no outbox, or no post in it. `Some`: they returned the first post and the number
+  -- of posts.
   abbrev pub WaitsIn : Option (ℕ × Post) → Type 0
   WaitsIn None = ShowsOutbox g old new false ⊎ ((m : Held S) × ShowsOutbox g old m true × FoundPost g m new first_text None)
   WaitsIn (Some w) = (m : Held S) × (n : Held S) × ShowsOutbox g old m true × FoundPost g m n first_text (Some w.1) × Counts g n new w.0

@@ -13,7 +13,7 @@ pub enum OpenError {
     /// Memory ran out, or the database returned an error.
     #[error("{0}")]
     Table(TableError),
-    /// Another table or view of this name exists; this is the SQL that created it.
+    /// Another table or view with this name exists. The text is the SQL that created it.
     #[error("its table is another one: {0}")]
     Another(String),
 }

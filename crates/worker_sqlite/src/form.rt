@@ -1,4 +1,4 @@
-//! The statements of a table, in which names are quoted.
+//! The statements of a table, with quoted names.
 ghost use Rattle.std.specs.Prelude.{◌≡◌, ◌++◌, ◌-◌, codes, flat_map, length, IfOk, OnOk, string_bytes};
 ghost use Rattle.worker_sqlite.specs.Form.{IsFormOf, IsUsual, column_text, condition_text, create_text, holds_text, insert_many_text, insert_text};
 ghost use Rattle.worker_sqlite.specs.Form.{kind_text, more_places_text, null_text, places_text, quoted, quoted_byte, usual_create, usual_holds, usual_insert, value_text};
@@ -20,18 +20,18 @@ const HOLDS: &str =
 pub struct Form {
     /// The table's name.
     pub name: String,
-    /// Creates the table.
+    /// The statement that creates the table.
     pub create: String,
-    /// Inserts a row, unless its key is there.
+    /// The statement that inserts a row, unless its key exists.
     pub insert: String,
-    /// Inserts `ROWS_AT_ONCE` rows, unless one of their keys is there.
+    /// The statement that inserts `ROWS_AT_ONCE` rows, and fails if one of their keys exists.
     pub insert_many: String,
-    /// Returns one row if a row of this key has these values, and otherwise none.
+    /// The query that returns one row if the row with this key has these values, and otherwise no row.
     pub holds: String,
 }
 
 impl Form {
-    /// The statements of the table `entries`, whose one column `fields` has a text.
+    /// Returns the statements of the table `entries`, whose only column besides the key is the text `fields`.
     pub fn usual(alloc: Global) -> Result<Form, TableError>
         ensures { IfOk result IsUsual }
     {
@@ -44,8 +44,8 @@ impl Form {
         })
     }
 
-    /// The statements of a table of this name, with these columns beside the two of the key. The names are
-    /// quoted.
+    /// Returns the statements of the table `name`, with the two columns of the key and these columns. The names
+    /// are quoted.
     pub fn of(alloc: Global, name: &str, columns: &[Column]) -> Result<Form, TableError>
         ensures { IfOk result (IsFormOf name.now columns.now) }
     {
@@ -59,7 +59,7 @@ impl Form {
     }
 }
 
-/// The statement that makes the table.
+/// Returns the statement that creates the table.
 fn create(alloc: Global, name: &str, columns: &[Column]) -> Result<String, TableError>
     ensures { IfOk result (λ text. string_bytes text ≡ create_text name.now columns.now) }
 {
@@ -68,7 +68,7 @@ fn create(alloc: Global, name: &str, columns: &[Column]) -> Result<String, Table
     text(out)
 }
 
-/// Appends the bytes of the statement.
+/// Appends the statement that creates the table.
 fn push_create(out: &mut Vec<u8>, name: &str, columns: &[Column]) -> Result<(), TableError>
     ensures { OnOk result (out.new.items ≡ out.old.items ++ create_text name.now columns.now) }
 {
@@ -79,7 +79,7 @@ fn push_create(out: &mut Vec<u8>, name: &str, columns: &[Column]) -> Result<(), 
     Ok(out.extend_from_slice(b"PRIMARY KEY (milliseconds, sequence)) STRICT")?)
 }
 
-/// The statement that inserts a row.
+/// Returns the statement that inserts a row.
 fn insert(alloc: Global, name: &str, columns: &[Column]) -> Result<String, TableError>
     ensures { IfOk result (λ text. string_bytes text ≡ insert_text name.now columns.now) }
 {
@@ -88,7 +88,7 @@ fn insert(alloc: Global, name: &str, columns: &[Column]) -> Result<String, Table
     text(out)
 }
 
-/// Appends the bytes of the statement.
+/// Appends the statement that inserts a row.
 fn push_insert(out: &mut Vec<u8>, name: &str, columns: &[Column]) -> Result<(), TableError>
     ensures { OnOk result (out.new.items ≡ out.old.items ++ insert_text name.now columns.now) }
 {
@@ -99,7 +99,7 @@ fn push_insert(out: &mut Vec<u8>, name: &str, columns: &[Column]) -> Result<(), 
     Ok(out.extend_from_slice(b") ON CONFLICT DO NOTHING")?)
 }
 
-/// The statement that inserts many rows, each of `width` values beside its key.
+/// Returns the statement that inserts `ROWS_AT_ONCE` rows, each with a key and `width` values.
 fn insert_many(alloc: Global, name: &str, width: usize) -> Result<String, TableError>
     ensures { IfOk result (λ text. string_bytes text ≡ insert_many_text name.now width) }
 {
@@ -108,7 +108,7 @@ fn insert_many(alloc: Global, name: &str, width: usize) -> Result<String, TableE
     text(out)
 }
 
-/// Appends the bytes of the statement.
+/// Appends the statement that inserts `ROWS_AT_ONCE` rows.
 fn push_insert_many(out: &mut Vec<u8>, name: &str, width: usize) -> Result<(), TableError>
     ensures { OnOk result (out.new.items ≡ out.old.items ++ insert_many_text name.now width) }
 {
@@ -119,7 +119,7 @@ fn push_insert_many(out: &mut Vec<u8>, name: &str, width: usize) -> Result<(), T
     push_more_places(out, width)
 }
 
-/// Appends the placeholders of all rows but the first.
+/// Appends the placeholders of all rows except the first.
 fn push_more_places(out: &mut Vec<u8>, width: usize) -> Result<(), TableError>
     ensures { OnOk result (out.new.items ≡ out.old.items ++ more_places_text width (ROWS_AT_ONCE - 1)) }
 {
@@ -148,7 +148,7 @@ fn push_places(out: &mut Vec<u8>, width: usize) -> Result<(), TableError>
     Ok(out.push(b')')?)
 }
 
-/// The query for a row with these values.
+/// Returns the query for a row with a key and values.
 fn holds(alloc: Global, name: &str, columns: &[Column]) -> Result<String, TableError>
     ensures { IfOk result (λ text. string_bytes text ≡ holds_text name.now columns.now) }
 {
@@ -157,7 +157,7 @@ fn holds(alloc: Global, name: &str, columns: &[Column]) -> Result<String, TableE
     text(out)
 }
 
-/// Appends the bytes of the statement.
+/// Appends the query for a row with a key and values.
 fn push_holds(out: &mut Vec<u8>, name: &str, columns: &[Column]) -> Result<(), TableError>
     ensures { OnOk result (out.new.items ≡ out.old.items ++ holds_text name.now columns.now) }
 {
@@ -186,7 +186,7 @@ fn push_bytes(out: &mut Vec<u8>, name: &[u8]) -> Result<(), TableError>
     Ok(())
 }
 
-/// Appends a byte of a name: a double quote is written twice, and a NUL is an error.
+/// Appends a byte of a name. A double quote is written twice, and a NUL is an error.
 fn push_byte(out: &mut Vec<u8>, byte: u8) -> Result<(), TableError>
     ensures { OnOk result (out.new.items ≡ out.old.items ++ quoted_byte byte) }
 {
@@ -217,7 +217,7 @@ fn push_column(out: &mut Vec<u8>, column: &Column) -> Result<(), TableError>
     Ok(out.extend_from_slice(b", ")?)
 }
 
-/// The type name of a column in SQL.
+/// Returns the name of a column's type in SQL.
 fn kind(kind: Kind) -> &'static str
     ensures { result.now ≡ kind_text kind }
 {
@@ -228,7 +228,7 @@ fn kind(kind: Kind) -> &'static str
     }
 }
 
-/// The constraint of a column, by whether a row may have no value there.
+/// Returns the constraint of a column. `optional` says whether a row may have no value there.
 fn null(optional: bool) -> &'static str
     ensures { result.now ≡ null_text optional }
 {
@@ -255,7 +255,7 @@ fn push_conditions(out: &mut Vec<u8>, columns: &[Column]) -> Result<(), TableErr
     Ok(())
 }
 
-/// Appends the condition of a column of this name.
+/// Appends the condition for the column `name`.
 fn push_condition(out: &mut Vec<u8>, name: &[u8]) -> Result<(), TableError>
     ensures { OnOk result (out.new.items ≡ out.old.items
         ++ (codes " AND " ++ (quoted name.now ++ codes " IS ?"))) }

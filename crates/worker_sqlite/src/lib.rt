@@ -1,9 +1,9 @@
-//! A table of rows in a SQLite file, which sqlite3 reads.
+//! A table of rows in a SQLite file, which `sqlite3` can read.
 //!
-//! The key of a row is in the columns `milliseconds` and `sequence`. The other columns are those of the `Form` of
-//! the table: for `Form::usual` the one column `fields`, of a table `entries`.
+//! The key of a row is in the columns `milliseconds` and `sequence`. The `Form` of the table defines the other
+//! columns. `Form::usual` is a table `entries` with one such column, `fields`.
 //!
-//! `SqliteOutbox` is such a table with an outbox, the table `outbox` of the same file.
+//! `SqliteOutbox` is such a table with an outbox. The outbox is the table `outbox` of the same file.
 #![tactic(auto)]
 
 mod error;

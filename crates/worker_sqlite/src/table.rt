@@ -1,4 +1,4 @@
-//! The table, over a connection to a database.
+//! A table in a SQLite database, over a connection.
 ghost use Rattle.std.specs.Prelude.{[], ◌∷◌, option_map, ◌≡◌, ℕ, None, IfErr, IfOk, OnOk, codes, flat_map, string_bytes};
 ghost use Rattle.sqlite.specs.Files.{IsOpened, file_state, over_files};
 ghost use Rattle.sqlite.specs.Held.{Held, IsNew};
@@ -31,7 +31,7 @@ pub struct SqliteTable<S: Alter + Drop> {
 }
 
 impl SqliteTable<FileStore<File>> {
-    /// Opens the table of this form in this file, and creates the file and the table if they are not there.
+    /// Opens the table of `form` in the file at `path`. Creates the file and the table if they do not exist.
     pub fn open(
         rt: &HostRuntime,
         path: &str,
@@ -49,7 +49,7 @@ impl SqliteTable<FileStore<File>> {
         }
     }
 
-    /// Copies what is committed into the file itself, so that no other file is needed.
+    /// Copies the committed changes into the file itself, so that no other file is needed.
     pub fn close(self) -> Result<(), TableError>
         ensures { IfErr result IsNamed }
     {
@@ -61,7 +61,7 @@ impl SqliteTable<FileStore<File>> {
 }
 
 impl<S: Alter + Drop> SqliteTable<S> {
-    /// The table of this form in this database, created if it is not there.
+    /// Opens the table of `form` in this database. Creates the table if it does not exist.
     pub fn over(alloc: Global, conn: Connection<S>, form: Form) -> Result<SqliteTable<S>, OpenError>
         ensures named { IfErr result IsNamedAtOpening }
         ensures form { IfOk result (λ table. table.form ≡ form) }
@@ -85,7 +85,7 @@ impl<S: Alter + Drop> Table for SqliteTable<S> {
 
     ghost is_open = { λ _. None };
 
-    /// Runs BEGIN.
+    /// Executes `BEGIN`.
     fn begin(&mut self) -> Result<(), TableError>
         ensures ran { OnOk result ((count : ℕ) × Ran S.Store self.old.conn self.new.conn (codes "BEGIN") [] count) }
         ensures leaves { LeavesBy S.Store self.old.conn self.new.conn (codes "BEGIN") [] }
@@ -94,7 +94,7 @@ impl<S: Alter + Drop> Table for SqliteTable<S> {
         run(&mut self.conn, "BEGIN")
     }
 
-    /// Runs INSERT .. ON CONFLICT DO NOTHING with the key and the values.
+    /// Executes `INSERT .. ON CONFLICT DO NOTHING` with the key and the values.
     fn insert(&mut self, alloc: Global, row: &Row) -> Result<bool, TableError>
         ensures ran { IfOk result (RanOne S.Store self.old.conn self.new.conn (string_bytes self.old.form.insert)
             (row_values (row_of row.now))) }
@@ -104,8 +104,8 @@ impl<S: Alter + Drop> Table for SqliteTable<S> {
         insert(&mut self.conn, &self.form.insert, &values)
     }
 
-    /// Runs INSERT with the keys and the values, if they are as many rows as its statement takes. A row that is
-    /// there already violates the primary key: then the database rolls the statement back.
+    /// Executes `INSERT` with the keys and the values, if there are exactly `ROWS_AT_ONCE` rows. An existing
+    /// row violates the primary key. Then the database rolls the statement back.
     fn insert_many(&mut self, alloc: Global, rows: &[Row]) -> Result<bool, TableError>
         ensures ran { IfOk result (RanAll S.Store self.old.conn self.new.conn (string_bytes self.old.form.insert_many)
             (flat_map (λ row. row_values (row_of row)) rows.now)) }
@@ -118,7 +118,7 @@ impl<S: Alter + Drop> Table for SqliteTable<S> {
         insert_many(&mut self.conn, &self.form.insert_many, &values)
     }
 
-    /// Runs SELECT with the key and the values.
+    /// Executes `SELECT` with the key and the values.
     fn holds(&mut self, alloc: Global, row: &Row) -> Result<bool, TableError>
         ensures shows { IfOk result (Shows S.Store self.old.conn self.new.conn (string_bytes self.old.form.holds)
             (row_values (row_of row.now))) }
@@ -128,7 +128,7 @@ impl<S: Alter + Drop> Table for SqliteTable<S> {
         shows(&mut self.conn, &self.form.holds, &values)
     }
 
-    /// Runs COMMIT.
+    /// Executes `COMMIT`.
     fn commit(&mut self) -> Result<(), TableError>
         ensures ran { OnOk result ((count : ℕ) × Ran S.Store self.old.conn self.new.conn (codes "COMMIT") [] count) }
         ensures leaves { LeavesBy S.Store self.old.conn self.new.conn (codes "COMMIT") [] }
@@ -137,7 +137,7 @@ impl<S: Alter + Drop> Table for SqliteTable<S> {
         run(&mut self.conn, "COMMIT")
     }
 
-    /// Runs ROLLBACK, if a transaction is open.
+    /// Executes `ROLLBACK`, if a transaction is open.
     fn roll_back(&mut self)
         ensures taken_back { TakesBack S.Store self.old.conn self.new.conn }
         ensures form { self.new.form ≡ self.old.form }
@@ -155,7 +155,7 @@ fn convert_error(error: Error) -> TableError
     TableError::Refused(reason(error))
 }
 
-/// Runs a statement without parameters.
+/// Executes a statement without parameters.
 fn run<S: Alter + Drop>(conn: &mut Connection<S>, sql: &str) -> Result<(), TableError>
     ensures named { IfErr result IsNamed }
     ensures ran { OnOk result ((count : ℕ) × Ran S.Store conn.old conn.new sql.now [] count) }
@@ -167,7 +167,7 @@ fn run<S: Alter + Drop>(conn: &mut Connection<S>, sql: &str) -> Result<(), Table
     }
 }
 
-/// Runs a statement with these values, and returns whether it changed one row.
+/// Executes a statement with these values. Returns whether it changed exactly one row.
 fn insert<S: Alter + Drop>(
     conn: &mut Connection<S>,
     sql: &str,
@@ -181,7 +181,7 @@ fn insert<S: Alter + Drop>(
     }
 }
 
-/// Runs a statement with these values, and returns whether it violated no constraint.
+/// Executes a statement with these values. Returns whether it violated no constraint.
 fn insert_many<S: Alter + Drop>(
     conn: &mut Connection<S>,
     sql: &str,
@@ -211,8 +211,8 @@ fn shows<S: Alter + Drop>(
     }
 }
 
-/// Creates the table of this name by this statement, if it is not there. If it is, the same statement must have
-/// created it.
+/// Creates the table `name` with the statement `create`, if it does not exist. An existing table must have been
+/// created by the same statement.
 fn make<S: Alter + Drop>(
     alloc: Global,
     conn: &mut Connection<S>,
@@ -229,14 +229,14 @@ fn make<S: Alter + Drop>(
     }
 }
 
-/// The error for a value that a table of this form cannot have.
+/// Returns the error for a value that a table of this form cannot have.
 fn malformed_error() -> TableError
     ensures { IsNamed result }
 {
     TableError::Refused("the database is malformed")
 }
 
-/// The error for another table of this name, with the SQL that created it.
+/// Returns the error for an existing table of another form. `text` is the SQL that created it.
 fn another(text: Vec<u8>) -> OpenError
     ensures { IsNamedAtOpening result }
 {
@@ -246,7 +246,7 @@ fn another(text: Vec<u8>) -> OpenError
     }
 }
 
-/// The text of the CREATE of the table of this name; none if there is no such table.
+/// Returns the text of the `CREATE` statement of the table `name`, or `None` if the table does not exist.
 fn definition<S: Alter + Drop>(
     alloc: Global,
     conn: &mut Connection<S>,
@@ -259,7 +259,8 @@ fn definition<S: Alter + Drop>(
     text_of(alloc, conn, KNOWN, &[ValueRef::Text(name.as_bytes())])
 }
 
-/// The text that is the first value of the first row of a query; none if it returns no row.
+/// Returns the first value of the query's first row, which must be a text. Returns `None` if the query returns
+/// no row.
 fn text_of<S: Alter + Drop>(
     alloc: Global,
     conn: &mut Connection<S>,
@@ -281,7 +282,7 @@ fn text_of<S: Alter + Drop>(
     }
 }
 
-/// The name of an error of the database.
+/// Returns the reason that an error of the database gives.
 fn reason(error: Error) -> &'static str {
     match error {
         Error::SqliteFailure(code) => code_reason(code),
@@ -293,7 +294,7 @@ fn reason(error: Error) -> &'static str {
     }
 }
 
-/// The text of an error of the database.
+/// Returns the text for an error code of the database.
 fn code_reason(code: ErrorCode) -> &'static str {
     match code {
         ErrorCode::ConstraintViolation(_) => "a row breaks a rule of the table",

@@ -12,7 +12,7 @@ use sqlite::types::ValueRef;
 use std::alloc::{AllocError, Global};
 use worker_table::row_table::{Cell, PostedRow, Row, TableError};
 
-/// The key of a row and its values.
+/// Returns the key of a row and its values.
 pub fn values_of<'a>(alloc: Global, row: &'a Row) -> Result<Vec<ValueRef<'a>>, TableError>
     ensures { IfOk result (λ values. bound values.items ≡ row_values (row_of row.now)) }
 {
@@ -21,7 +21,7 @@ pub fn values_of<'a>(alloc: Global, row: &'a Row) -> Result<Vec<ValueRef<'a>>, T
     Ok(values)
 }
 
-/// The keys of rows and their values, in order.
+/// Returns the keys of the rows and their values, in order.
 pub fn values_of_all<'a>(alloc: Global, rows: &'a [Row]) -> Result<Vec<ValueRef<'a>>, TableError>
     ensures { IfOk result (λ values. bound values.items ≡ flat_map (λ row. row_values (row_of row)) rows.now) }
 {
@@ -32,7 +32,7 @@ pub fn values_of_all<'a>(alloc: Global, rows: &'a [Row]) -> Result<Vec<ValueRef<
     Ok(values)
 }
 
-/// The key of a row and its values.
+/// Appends the key of a row and its values.
 fn push_row<'a>(values: &mut Vec<ValueRef<'a>>, row: &'a Row) -> Result<(), TableError>
     ensures { OnOk result (bound values.new.items ≡ bound values.old.items ++ row_values (row_of row.now)) }
 {
@@ -49,7 +49,7 @@ fn push_key(values: &mut Vec<ValueRef<'_>>, first: u64, second: u64) -> Result<(
     Ok(values.push(ValueRef::Int(second))?)
 }
 
-/// A key as the database has it: two numbers below 2^63.
+/// Converts a key to two signed numbers. A number of 2^63 or more is an error.
 fn key_of(first: u64, second: u64) -> Result<(i64, i64), TableError>
     ensures { IfOk result (λ k. (k.0 ≡ pos first) × (k.1 ≡ pos second)) }
 {
@@ -59,7 +59,7 @@ fn key_of(first: u64, second: u64) -> Result<(i64, i64), TableError>
     }
 }
 
-/// A key.
+/// Returns the two numbers of a key.
 pub fn values_of_key<'a>(
     alloc: Global,
     first: u64,
@@ -72,7 +72,7 @@ pub fn values_of_key<'a>(
     Ok(values)
 }
 
-/// The key of a row, and the commands of its post.
+/// Returns the key of a row, followed by the command and the query of its post.
 pub fn values_of_post<'a>(
     alloc: Global,
     row: &'a PostedRow,
@@ -95,7 +95,7 @@ fn push_values<'a>(values: &mut Vec<ValueRef<'a>>, cells: &'a [Cell]) -> Result<
     Ok(())
 }
 
-/// A value.
+/// Converts a cell to a value of SQL.
 fn value_of<'a>(cell: &'a Cell) -> ValueRef<'a>
     ensures { bound_value (owned result) ≡ value_of (cell_of cell.now) }
 {

@@ -32,8 +32,8 @@ IsWhyOfOne columns fields cells.Memory = Unit {0}
 IsWhyOfOne columns fields (cells.Field name why) = (i : ℕ) × (c : Column) × (i < length columns) × (c ≡ get_or columns i c)
     × (string_bytes name ≡ string_bytes c.name) × (cell_read c fields ≡ Err why)
 
--- why the entry `e` is not a row of these columns: the id is not two numbers or is too large, memory ran out,
--- or a field could not be read
+-- Why the entry `e` is not a row of these columns. The id is not two numbers or is too large, memory ran out,
+-- or a field could not be read.
 abbrev pub IsFaultOf : List Column → Entry Pairs → Fault → Type 0
 IsFaultOf columns e faults.NotAnId = id_in e.0 ≡ None
 IsFaultOf columns e (faults.Table Memory) = Unit {0}

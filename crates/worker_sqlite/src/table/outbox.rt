@@ -1,4 +1,4 @@
-//! The table with an outbox beside it, in the same database.
+//! A table with an outbox beside it, in the same database.
 ghost use Rattle.std.specs.Prelude.{[], ◌≡◌, ℕ, None, IfErr, IfOk, OnOk, codes, option_map, pos, string_bytes};
 ghost use Rattle.sqlite.specs.Order.{column};
 ghost use Rattle.sqlite.specs.Values.{bound};
@@ -33,14 +33,14 @@ const COUNT: &str = "SELECT count(*) FROM outbox";
 
 const REMOVE: &str = "DELETE FROM outbox WHERE milliseconds = ?1 AND sequence = ?2";
 
-/// A table of a database with an outbox beside it, the table `outbox`.
+/// A table of a database, with the outbox in the table `outbox` of the same database.
 #[derive(Drop)]
 pub struct SqliteOutbox<S: Alter + Drop> {
     table: SqliteTable<S>,
 }
 
 impl<S: Alter + Drop> SqliteOutbox<S> {
-    /// The table with its outbox, created if it is not there.
+    /// Adds the outbox to `table`. Creates the outbox if it does not exist.
     pub fn beside(alloc: Global, table: SqliteTable<S>) -> Result<SqliteOutbox<S>, OpenError>
         ensures named { IfErr result IsNamedAtOpening }
         ensures form { IfOk result (λ outbox. outbox.table.form ≡ table.form) }
@@ -51,7 +51,7 @@ impl<S: Alter + Drop> SqliteOutbox<S> {
         Ok(SqliteOutbox { table })
     }
 
-    /// The table.
+    /// Returns the table.
     pub fn into_table(self) -> SqliteTable<S>
         ensures { result ≡ self.table }
     {
@@ -68,7 +68,7 @@ impl<S: Alter + Drop> WithOutbox for SqliteOutbox<S> {
 
     ghost is_open = { λ _. None };
 
-    /// Runs BEGIN.
+    /// Executes `BEGIN`.
     fn begin(&mut self) -> Result<(), TableError>
         ensures ran { OnOk result ((count : ℕ)
             × Ran S.Store self.old.table.conn self.new.table.conn (codes "BEGIN") [] count) }
@@ -78,7 +78,7 @@ impl<S: Alter + Drop> WithOutbox for SqliteOutbox<S> {
         self.table.begin()
     }
 
-    /// Runs INSERT .. ON CONFLICT DO NOTHING with the key and the values.
+    /// Executes `INSERT .. ON CONFLICT DO NOTHING` with the key and the values.
     fn insert(&mut self, alloc: Global, row: &Row) -> Result<bool, TableError>
         ensures ran { IfOk result (RanOne S.Store self.old.table.conn self.new.table.conn
             (string_bytes self.old.table.form.insert) (row_values (row_of row.now))) }
@@ -87,7 +87,7 @@ impl<S: Alter + Drop> WithOutbox for SqliteOutbox<S> {
         self.table.insert(alloc, row)
     }
 
-    /// Runs SELECT with the key and the values.
+    /// Executes `SELECT` with the key and the values.
     fn holds(&mut self, alloc: Global, row: &Row) -> Result<bool, TableError>
         ensures shows { IfOk result (Shows S.Store self.old.table.conn self.new.table.conn
             (string_bytes self.old.table.form.holds) (row_values (row_of row.now))) }
@@ -96,7 +96,7 @@ impl<S: Alter + Drop> WithOutbox for SqliteOutbox<S> {
         self.table.holds(alloc, row)
     }
 
-    /// Runs INSERT with the key and the two commands.
+    /// Executes `INSERT` with the key, the command and the query.
     fn enqueue(&mut self, alloc: Global, row: &PostedRow) -> Result<(), TableError>
         ensures ran { OnOk result ((count : ℕ) × Ran S.Store self.old.table.conn self.new.table.conn
             enqueue_text (post_values (post_for (posted_of row.now))) count) }
@@ -106,7 +106,7 @@ impl<S: Alter + Drop> WithOutbox for SqliteOutbox<S> {
         write(&mut self.table.conn, ENQUEUE, &values)
     }
 
-    /// Runs SELECT .. ORDER BY milliseconds, sequence LIMIT 1.
+    /// Executes `SELECT .. ORDER BY milliseconds, sequence LIMIT 1`.
     fn first(&mut self, alloc: Global) -> Result<Option<Post>, TableError>
         ensures found { IfOk result (λ found. FoundPost S.Store self.old.table.conn self.new.table.conn
             first_text (option_map post_of found)) }
@@ -115,7 +115,7 @@ impl<S: Alter + Drop> WithOutbox for SqliteOutbox<S> {
         first_post(alloc, &mut self.table.conn)
     }
 
-    /// Runs DELETE with the key.
+    /// Executes `DELETE` with the key.
     fn remove(&mut self, alloc: Global, post: &Post) -> Result<(), TableError>
         ensures ran { OnOk result ((count : ℕ) × Ran S.Store self.old.table.conn self.new.table.conn
             remove_text (key_values (post_of post.now).key) count) }
@@ -125,7 +125,7 @@ impl<S: Alter + Drop> WithOutbox for SqliteOutbox<S> {
         write(&mut self.table.conn, REMOVE, &values)
     }
 
-    /// Runs COMMIT.
+    /// Executes `COMMIT`.
     fn commit(&mut self) -> Result<(), TableError>
         ensures ran { OnOk result ((count : ℕ)
             × Ran S.Store self.old.table.conn self.new.table.conn (codes "COMMIT") [] count) }
@@ -135,7 +135,7 @@ impl<S: Alter + Drop> WithOutbox for SqliteOutbox<S> {
         self.table.commit()
     }
 
-    /// Runs ROLLBACK, if a transaction is open.
+    /// Executes `ROLLBACK`, if a transaction is open.
     fn roll_back(&mut self)
         ensures taken_back { TakesBack S.Store self.old.table.conn self.new.table.conn }
         ensures form { self.new.table.form ≡ self.old.table.form }
@@ -147,14 +147,15 @@ impl<S: Alter + Drop> WithOutbox for SqliteOutbox<S> {
 /// The posts in an outbox.
 #[derive(Drop)]
 pub struct Waiting {
-    /// How many posts there are.
+    /// The number of posts.
     pub count: u64,
-    /// The post of the first key.
+    /// The post with the smallest key.
     pub first: Post,
 }
 
 impl<S: Alter + Drop> SqliteTable<S> {
-    /// The posts in the outbox of its database; none if there is no outbox, or it is empty.
+    /// Returns the posts in the outbox of the database. Returns `None` if there is no outbox, or if the outbox
+    /// is empty.
     pub fn waiting(&mut self, alloc: Global) -> Result<Option<Waiting>, TableError>
         ensures shown { IfOk result (λ found. WaitsIn S.Store self.old.conn self.new.conn
             (option_map (λ w. (w.count, post_of w.first)) found)) }
@@ -171,7 +172,7 @@ impl<S: Alter + Drop> SqliteTable<S> {
     }
 }
 
-/// Whether the database has the outbox.
+/// Whether the database has an outbox that `OUTBOX_CREATE` created.
 fn has_outbox<S: Alter + Drop>(alloc: Global, conn: &mut Connection<S>) -> Result<bool, TableError>
     ensures { IfOk result (ShowsOutbox S.Store conn.old conn.new) }
 {
@@ -182,7 +183,7 @@ fn has_outbox<S: Alter + Drop>(alloc: Global, conn: &mut Connection<S>) -> Resul
     }
 }
 
-/// How many posts the query returns.
+/// Returns the number of posts in the outbox.
 fn count_posts<S: Alter + Drop>(conn: &mut Connection<S>) -> Result<u64, TableError>
     ensures { IfOk result (Counts S.Store conn.old conn.new) }
 {
@@ -192,7 +193,7 @@ fn count_posts<S: Alter + Drop>(conn: &mut Connection<S>) -> Result<u64, TableEr
     }
 }
 
-/// Runs a statement with these values.
+/// Executes a statement with these values.
 fn write<S: Alter + Drop>(
     conn: &mut Connection<S>,
     sql: &str,
@@ -206,7 +207,7 @@ fn write<S: Alter + Drop>(
     }
 }
 
-/// The post that the query returns; none if it returns no row.
+/// Returns the post with the smallest key, or `None` if there are no posts.
 fn first_post<S: Alter + Drop>(
     alloc: Global,
     conn: &mut Connection<S>,
@@ -220,7 +221,7 @@ fn first_post<S: Alter + Drop>(
     }
 }
 
-/// The post of a row: two numbers and two texts of bytes.
+/// Reads a post from a row with two numbers and two blobs.
 fn post_in(alloc: Global, row: &Shown) -> Result<Post, TableError>
     ensures { IfOk result (λ post. AreValues row.now (post_of post)) }
 {
@@ -232,7 +233,7 @@ fn post_in(alloc: Global, row: &Shown) -> Result<Post, TableError>
     })
 }
 
-/// The number in the column of this index.
+/// Returns the number in the column with index `at`.
 fn number_at(row: &Shown, at: usize) -> Result<u64, TableError>
     ensures { IfOk result (λ number. column row.now at ≡ number_value number) }
 {
@@ -242,7 +243,7 @@ fn number_at(row: &Shown, at: usize) -> Result<u64, TableError>
     }
 }
 
-/// Converts a number that is not negative.
+/// Converts a number that must not be negative.
 fn unsigned(number: i64) -> Result<u64, TableError>
     ensures { IfOk result (λ n. number ≡ pos n) }
 {
@@ -252,7 +253,7 @@ fn unsigned(number: i64) -> Result<u64, TableError>
     }
 }
 
-/// The bytes in the column of this index.
+/// Returns the bytes in the column with index `at`.
 fn bytes_at(alloc: Global, row: &Shown, at: usize) -> Result<Vec<u8>, TableError>
     ensures { IfOk result (λ bytes. column row.now at ≡ bytes_value bytes.items) }
 {
