@@ -21,8 +21,9 @@ use Rattle.worker_producer.specs.Session.{IsRound}
 use Rattle.worker_producer.specs.declared.settings.Settings.{Settings as FeedSettings}
 use Rattle.worker_producer.specs.declared.stage.Asked.TheVariants.{Nothing}
 
--- a producer and a worker have made these events together: rounds, failures, crashes and starts of each, in any order.
--- Batches and acknowledgements may arrive late, and others may use the server. This is the worker's state after them
+-- a producer and a worker made these events together: rounds, failures, crashes and starts of each, in any
+-- order. Batches and acknowledgements may arrive late, and others may use the server. `worker` is the state of
+-- the worker after them
 pub record BothRun (s : Setting Fields) (events : List (Event Fields)) (worker : Standing Doings) : Type 0 where
   pub feed_settings : FeedSettings
   pub producer : Producer
@@ -38,7 +39,7 @@ NothingComesOutTwice = (s : Setting Fields) → Fit s → (events : List (Event 
     → Once (ids_of worker.history.committed)
     × ((e : Entry Fields) → Among e worker.history.committed → Among e (entries s.base s.records))
 
--- and if the worker reads all in order, the file is the first records, in order
+-- the law: if the worker reads all entries in order, the file is the first records, in order
 abbrev pub FirstOnesComeOut : Type 0
 FirstOnesComeOut = (s : Setting Fields) → Fit s → (events : List (Event Fields)) (worker : Standing Doings)
     → BothRun s events worker → NoOtherAdds events → AllInOrder s first_world events
@@ -75,22 +76,23 @@ pub record ReadsNoMore (s : Setting Fields) (events : List (Event Fields)) : Typ
   pub none : hears settings (asking committed_too settings standing).asked turn.answer ≡ Some (told (news []))
 
 module _ {s : Setting Fields} {events : List (Event Fields)} (r : ReadsNoMore s events) where
-  -- all events, with those of the last round
+  -- all events, including those of the last round
   abbrev pub to_the_end : List (Event Fields)
   to_the_end = events ++ round_events r.settings r.standing r.meantime r.turn.verdicts
 
-  -- the entries of the worker's file then
+  -- the entries of the worker's file after the last round
   abbrev pub file_at_the_end : List (Entry Fields)
   file_at_the_end = (after_turn done_too committed_too r.settings r.standing r.turn).history.committed
 
--- the law: if both ended so, and the worker reads all in order, the file is the records, in order
+-- the law: if the producer and the worker both ended, and the worker reads all in order, the file is the
+-- records, in order
 abbrev pub WhatGoesInComesOut : Type 0
 WhatGoesInComesOut = (s : Setting Fields) → Fit s → (events more : List (Event Fields)) → IsFilled s events
     → (r : ReadsNoMore s (events ++ more)) → NoOtherAdds (to_the_end r) → AllInOrder s first_world (to_the_end r)
     → file_at_the_end r ≡ entries s.base s.records
 
--- in whatever order it reads: the file has each record once if the producer ended so, the group is drained, nothing was
--- deleted, and nobody else acknowledged
+-- the law: the file has each record once, in whatever order the worker reads. The producer ended, and the group
+-- is drained. Nothing was deleted, and no other client acknowledged
 abbrev pub EachComesOutOnce : Type 0
 EachComesOutOnce = (s : Setting Fields) → Fit s → (events more : List (Event Fields)) → IsFilled s events
     → (settings : Settings) (worker : Standing Doings) → Runs s settings (events ++ more) worker

@@ -1,8 +1,8 @@
 //! What holds for a producer and a worker over one server.
 ghost use Rattle.model_workers.specs.BothEnds.{EachComesOutOnce, FirstOnesComeOut, NothingComesOutTwice, WhatGoesInComesOut};
 
-/// What goes in comes out, once, whatever crashes come. A producer and a worker run over one server, in any order. Each
-/// may fail, crash and be started again, and batches may arrive late.
+/// Each record that a producer adds is in the worker's file once, whatever crashes. A producer and a worker run
+/// over one server, in any order. Each may fail, crash and be started again, and batches may arrive late.
 ///
 /// No record is twice in the worker's file, and each entry of the file is a record. If the worker reads all in order,
 /// the file is the first records, in order. It is all records if the producer's last round sent nothing and the

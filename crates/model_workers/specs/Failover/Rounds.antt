@@ -31,30 +31,31 @@ use Rattle.worker.specs.declared.worker.Progress.{Progress}
 use Rattle.worker.specs.declared.worker.Worker.{Worker}
 use Rattle.model_workers.specs.Failover.Keeps.{Keeps}
 
--- between two rounds the worker is this consumer, and its handler has its lines and its file
+-- between two rounds the worker `v` is the consumer `c`. The handler of `v` has the lines and the file of `c`
 pub record IsConsumer {R : Type 0} (k : Keeps R) (v : Standing R) (c : Consumer Fields) : Type 0 where
   pub machine : c.machine ≡ v.machine
   pub answer : c.answer ≡ None
   pub history : v.history ≡ k.written c.lines c.file
 
--- the event is not of this consumer; and if `calm`, it is not a failover
+-- the event is not of this consumer. If `calm`, the event is not a failover
 abbrev pub IsBesides : (calm : Bool) → Event Fields → Type 0
 IsBesides calm (Plain event) = IsOfOthers event
 IsBesides calm (Arrive_waits executes asked said) = Unit {0}
 IsBesides calm (Ask_waits n pick next asked said) = ⊥
 IsBesides calm (Failover which) = calm ≡ false
 
--- so is each of these
+-- `IsBesides` holds for each event
 abbrev pub AreBesides : (calm : Bool) → List (Event Fields) → Type 0
 AreBesides calm [] = Unit {0}
 AreBesides calm (e ∷ es) = IsBesides calm e × AreBesides calm es
 
 -- the outcome of the request of a round, and of the WAIT after it
 pub data Fate : Type 0 where
-  -- it arrives at the server in this round. The server picks these of the pending entries, and returns the id from
-  -- which the next claim continues. `said` replicas confirm it
+  -- the request arrives at the server in this round. `pick` says which pending entries the server returns, and
+  -- `next` is the id from which the next claim continues. `said` replicas confirm the request
   comes : (pick : Id → Bool) (next : Id) (said : ℕ) → Fate
-  -- the server refuses it, or it arrives later, or never. A late request for entries is an event of others
+  -- the server refuses the request, or the request arrives later or never. A late request for entries is an
+  -- event of others
   comes_not : Fate
 
 -- what others do in a round, and the outcome of its request. If `calm`, the server does not fail over
@@ -72,20 +73,21 @@ abbrev pub asks_with : Option Wait → ℕ → (Id → Bool) → Id → ℕ → 
 asks_with None n pick next said = Plain (Ask n pick next)
 asks_with (Some w) n pick next said = Ask_waits n pick next w.replicas said
 
--- the request of a round, with COUNT n: an XACK of these ids, or a request for entries if there are none
+-- the request of a round, with COUNT `n`: an XACK of `to_acknowledge`, or a request for entries if there are no
+-- such ids
 abbrev pub question_events : Option Wait → ℕ → Fate → (to_acknowledge : List Id) → List (Event Fields)
 question_events wait n (comes pick next said) [] = asks_with wait n pick next said ∷ []
 question_events wait n (comes pick next said) (i ∷ ids) = Plain Acknowledge_now ∷ []
 question_events wait n comes_not [] = []
 question_events wait n comes_not (i ∷ ids) = Plain Acknowledge_later ∷ []
 
--- this number of replicas confirm it
+-- `n` replicas confirm the request, if it arrives in this round
 abbrev pub IsSaid : Fate → ℕ → Type 0
 IsSaid (comes pick next said) n = said ≡ n
 IsSaid comes_not n = Unit {0}
 
 module _ {R : Type 0} (k : Keeps R) (wait : Option Wait) (settings : Settings) (v : Standing R) where
-  -- the worker as it sends its request
+  -- the worker while it waits for the reply to its request
   abbrev pub now_asking : Standing R
   now_asking = asking k.with_commit settings v
 
@@ -94,7 +96,7 @@ module _ {R : Type 0} (k : Keeps R) (wait : Option Wait) (settings : Settings) (
     abbrev pub until_asked : List (Event Fields)
     until_asked = m.before ++ (map Plain (committing v.machine) ++ m.earlier)
 
-    -- the request
+    -- the request of the round, if it arrives at the server
     abbrev pub question : List (Event Fields)
     question = question_events wait (count_asked settings (at_request v.machine).phase) m.fate
         (at_request v.machine).to_acknowledge
@@ -103,18 +105,19 @@ module _ {R : Type 0} (k : Keeps R) (wait : Option Wait) (settings : Settings) (
     abbrev pub until_replied : List (Event Fields)
     until_replied = until_asked ++ (question ++ m.later)
 
-    -- the premise: the reply is the one that the server sent to this consumer
+    -- the premise: `reply` is the reply that the server sent to this consumer
     abbrev pub HearsTheReply : Setting Fields → World Fields → wire.Answer → Type 0
     HearsTheReply s w reply =
         IsHeard (run s until_replied w).now.consumer.answer (hears settings now_asking.asked reply)
 
-    -- a round that fails, after these events of its reply. If nothing was sent, the worker may have committed
+    -- the events of a round that fails with an error. `handled` are the events of its reply. If nothing was
+    -- sent, the worker may have committed
     abbrev pub events_by : RunError → (handled : List (Event Fields)) → List (Event Fields)
     events_by (causes.Request e) handled = map Plain (unasked_events v.machine e)
     events_by e handled = until_replied ++ (handled ++ Plain Reconnect ∷ [])
 
 module _ {R : Type 0} (k : Keeps R) (settings : Settings) where
-  -- the handling of a reply: some entries, if memory ran out after them
+  -- the events of a reply during which memory ran out. The handler may have handled some entries before that
   abbrev pub cut_by : {A : Type 0} {asked : Asked} {t : Tree} {m n : Machine} {r s : R}
       → A ⊎ WasCut k.with_verdict settings asked t m n r s → List (Event Fields)
   cut_by (inl none) = []
@@ -128,12 +131,12 @@ module _ {R : Type 0} (k : Keeps R) (settings : Settings) where
 module _ {R : Type 0} (k : Keeps R) (settings : Settings) (v x : Standing R) where
   -- ---- a round that returns `Ok`
 
-  -- with or without a WAIT
+  -- the round of the contract, with or without a WAIT
   abbrev pub IsRound : Option Wait → (old new : Link) → Asked → Progress → Type 0
   IsRound None old new asked p = Turned k.with_verdict k.with_commit settings old new v x asked p
   IsRound (Some w) old new asked p = IsConfirmedRound k.with_verdict k.with_commit settings w old new v x asked p
 
-  -- the reply that arrived, and the verdicts of the handler
+  -- the reply of the round, and the verdicts of the handler
   abbrev pub turn_of : (wait : Option Wait) (old new : Link) (asked : Asked) (p : Progress)
       → IsRound wait old new asked p → Turn
   turn_of None old new asked p r = r.turn
@@ -147,7 +150,7 @@ module _ {R : Type 0} (k : Keeps R) (settings : Settings) (v x : Standing R) whe
 
   -- ---- a round that fails
 
-  -- the same for a round that fails
+  -- the events of the reply of a round that fails
   abbrev pub handled : (old new : Link) (e : RunError)
       → Fails k.with_verdict k.with_commit settings old new v x e → List (Event Fields)
   handled old new (causes.Answer e) f =
@@ -160,19 +163,19 @@ module _ {R : Type 0} (k : Keeps R) (settings : Settings) (v x : Standing R) whe
         → Fails k.with_verdict k.with_commit settings old new v x e → List (Event Fields)
     events_of old new e f = events_by k wait settings v m e (handled old new e f)
 
-    -- the premise of the reply, if one arrived
+    -- the premise: if a reply arrived, it is the reply that the server sent
     abbrev pub HearsIt : Setting Fields → World Fields → (old new : Link) (e : RunError)
         → Fails k.with_verdict k.with_commit settings old new v x e → Type 0
     HearsIt s w old new (causes.Answer e) f = HearsTheReply k wait settings v m s w f.1.0
     HearsIt s w old new e f = Unit {0}
 
-  -- with or without a WAIT
+  -- the round of the contract fails, with or without a WAIT
   abbrev pub IsFailure : Option Wait → (old new : Link) → RoundError → Type 0
   IsFailure None old new (ends.Run e) = Fails k.with_verdict k.with_commit settings old new v x e
   IsFailure None old new (ends.Unconfirmed e) = ⊥
   IsFailure (Some w) old new e = FailsConfirmed k.with_verdict k.with_commit settings w old new v x e
 
-  -- the events of such a round. In one that is not confirmed no entry is handled
+  -- the events of a round that fails. In a round that is not confirmed no entry is handled
   abbrev pub failure_events : (wait : Option Wait) (m : Meantime false) (old new : Link) (e : RoundError)
       → IsFailure wait old new e → List (Event Fields)
   failure_events None m old new (ends.Run e) f = events_of None m old new e f
@@ -181,7 +184,7 @@ module _ {R : Type 0} (k : Keeps R) (settings : Settings) (v x : Standing R) whe
   failure_events (Some w) m old new (ends.Run e) (inr f) = events_of (Some w) m old f.link e f.fails
   failure_events (Some w) m old new (ends.Unconfirmed e) f = until_replied k (Some w) settings v m ++ Plain Reconnect ∷ []
 
-  -- its premise
+  -- the premise of a round that fails: the reply, if one was used, is the reply that the server sent
   abbrev pub FailsHearing : Setting Fields → World Fields → (wait : Option Wait) (m : Meantime false) (old new : Link)
       (e : RoundError) → IsFailure wait old new e → Type 0
   FailsHearing s w None m old new (ends.Run e) f = HearsIt None m s w old new e f
@@ -198,27 +201,27 @@ again v = record v { machine = begins_again v.machine }
 
 -- the moment of a crash. The server may have failed over
 pub data Moment : Type 0 where
-  -- between two rounds, or before the end of a commit, after these events
+  -- the worker crashes between two rounds, or before the end of a commit. The events `before` come first
   between : (before : List (Event Fields)) → AreBesides false before → Moment
-  -- in a round, after its commit
+  -- the worker crashes in a round, after its commit
   within : (m : Meantime false) → Moment
 
--- the events in that round
+-- the events before a crash at this moment, since the last round
 abbrev pub events_until : {R : Type 0} → Keeps R → Option Wait → Settings → Standing R → Moment → List (Event Fields)
 events_until k wait settings v (between before others) = before
 events_until k wait settings v (within m) = until_replied k wait settings v m
 
--- the entries whose lines a crash leaves in the file: all committed ones. Of the others the first `kept` are there too,
--- if the crash interrupted a commit
+-- the entries whose lines a crash leaves in the file: all committed ones. If the crash interrupted a commit,
+-- the first `kept` of the others are there too
 abbrev pub file_left : Consumer Fields → (kept : ℕ) → List (Entry Fields)
 file_left c kept = c.file ++ take kept c.lines
 
--- the number of them that the last commit added
+-- how many of the entries that a crash leaves in the file were added by the last commit
 abbrev pub added_last : Consumer Fields → (kept : ℕ) → ℕ
 added_last c kept = last_added c.last_commit (take kept c.lines)
 
--- a worker is started, and begins to acknowledge the ids of the last `number` lines of its file. These are at least the
--- lines of the last commit. Its handler has gathered nothing, over that file
+-- a worker is started with the settings `settings`. It begins to acknowledge the ids of the last `number` lines
+-- of its file, which include the lines of the last commit. Its handler has gathered nothing
 pub record StartsOver {R : Type 0} (k : Keeps R) (settings : Settings) (c : Consumer Fields) (x : Standing R) : Type 0 where
   pub kept : ℕ
   pub number : ℕ
@@ -227,7 +230,7 @@ pub record StartsOver {R : Type 0} (k : Keeps R) (settings : Settings) (c : Cons
   pub started : IsStarted settings (ids_of (last_lines number (file_left c kept))) worker
   pub stands : x ≡ standing_of worker (k.written [] (file_left c kept))
 
--- the start
+-- the event of that start
 abbrev pub start_events : {R : Type 0} (k : Keeps R) (settings : Settings) (c : Consumer Fields) (x : Standing R)
     → StartsOver k settings c x → List (Event Fields)
 start_events k settings c x t = Plain (Restart settings.every t.kept (t.number - added_last c t.kept)) ∷ []

@@ -26,19 +26,19 @@ use Rattle.model_workers.specs.Failover.Rounds.{until_replied, IsFailure, failur
 use Rattle.model_workers.specs.Failover.Rounds.{StartsOver, start_events}
 
 module _ {R : Type 0} (k : Keeps R) (s : Setting Fields) (wait : Option Wait) where
-  -- the premises of a round that returns `Ok`: the replies, also that to WAIT, are those that this server sent
+  -- the premises of a round that returns `Ok`: this server sent the reply, and the reply to WAIT
   pub record IsServed (settings : Settings) (old new : Link) (v x : Standing R) (asked : Asked) (p : Progress)
       (m : Meantime true) (w : World Fields) (r : IsRound k settings v x wait old new asked p) : Type 0 where
     pub reply : HearsTheReply k wait settings v m s w (turn_of k settings v x wait old new asked p r).answer
     pub heard : HearsTheWait k settings v x wait old new asked p r m.fate
 
-  -- a round that returns `Ok`
+  -- the events of a round that returns `Ok`
   abbrev pub round_events : (settings : Settings) (old new : Link) (v x : Standing R) (asked : Asked) (p : Progress)
       (m : Meantime true) → IsRound k settings v x wait old new asked p → List (Event Fields)
   round_events settings old new v x asked p m r = until_replied k wait settings v m
       ++ Plain (Take (turn_of k settings v x wait old new asked p r).verdicts) ∷ []
 
-  -- the state of the consumer in a crash at this moment
+  -- the state of the consumer when it crashes at this moment
   abbrev pub consumer_at : Settings → Standing R → Moment → World Fields → Consumer Fields
   consumer_at settings v moment w = (run s (events_until k wait settings v moment) w).now.consumer
 
@@ -51,10 +51,10 @@ module _ {R : Type 0} (k : Keeps R) (s : Setting Fields) (wait : Option Wait) wh
   restart_events settings with_settings w v x moment t = events_until k wait settings v moment
       ++ start_events k with_settings (consumer_at settings v moment w) x t
 
--- a worker with these settings may have this state after these events of the model. First it is started over an empty
--- file. Then others do something, or it makes a round, or a round fails or is not confirmed, or a connection breaks,
--- or it crashes and is started again. When a round fails, or a connection breaks, or before a crash, the server may
--- fail over
+-- a worker with these settings may be in this state after these events of the model. The worker is first
+-- started over an empty file. Then others act, a round is made, a round fails or is not confirmed, a connection
+-- breaks, or the worker crashes and is started again. The server may fail over when a round fails, when a
+-- connection breaks, and before a crash
 pub data Runs {R : Type 0} (k : Keeps R) (s : Setting Fields) (wait : Option Wait)
     : Settings → List (Event Fields) → Standing R → Type 0 where
   begins : (settings : Settings) (worker : Worker) → IsStarted settings [] worker
@@ -77,46 +77,46 @@ pub data Runs {R : Type 0} (k : Keeps R) (s : Setting Fields) (wait : Option Wai
       → Runs k s wait with_settings
       (events ++ restart_events k s wait settings with_settings (after s events) v x moment t) x
 
--- after each schedule it is the consumer of the model after these events
+-- the law: after each schedule the worker is the consumer of the model after the events of the schedule
 abbrev pub RunsAreEvents : Type 0 → Type 0
 RunsAreEvents R = (k : Keeps R) → LooksUp k → (s : Setting Fields) (wait : Option Wait) (settings : Settings)
     (events : List (Event Fields)) (v : Standing R) → Runs k s wait settings events v
     → IsConsumer k v (after s events).now.consumer
 
--- if it sends WAIT, a WAIT follows each of its requests for entries
+-- the law: if the worker sends WAIT, a WAIT follows each of its requests for entries
 abbrev pub RunsWait : Type 0 → Type 0
 RunsWait R = (k : Keeps R) (s : Setting Fields) (w : Wait) (settings : Settings)
     (events : List (Event Fields)) (v : Standing R) → Runs k s (Some w) settings events v
     → ProducerAlwaysWaits events → AllWait events
 
--- the entries in its file after these events
+-- the entries in the file of the consumer after these events
 abbrev pub file_after : Setting Fields → List (Event Fields) → List (Entry Fields)
 file_after s events = (after s events).now.consumer.file
 
--- these entries are what its handler has committed
+-- the handler has committed the entries `file`
 abbrev pub HasFile : {R : Type 0} → Keeps R → Standing R → List (Entry Fields) → Type 0
 HasFile k v file = (lines : List (Entry Fields)) × (v.history ≡ k.written lines file)
 
--- no id is twice in its file, with or without WAIT
+-- the law: no id is twice in the file of the worker, with or without WAIT
 abbrev pub CodeWritesOnce : Type 0 → Type 0
 CodeWritesOnce R = (k : Keeps R) → LooksUp k → (s : Setting Fields) (wait : Option Wait) (settings : Settings)
     (events : List (Event Fields)) (v : Standing R) → Runs k s wait settings events v
     → HasFile k v (file_after s events) × Once (ids_of (file_after s events))
 
--- if it and the producer send WAIT, each entry of its file is in the log, with its own fields, after any failover, and
--- nobody gets it as a new entry
+-- the law of a worker and a producer that send WAIT. After any failover each entry of the file is in the log,
+-- with its own fields. No consumer gets such an entry as a new one
 abbrev pub CodeWritesTheLog : Type 0 → Type 0
 CodeWritesTheLog R = (k : Keeps R) → LooksUp k → (s : Setting Fields) (w : Wait) (settings : Settings)
     (events : List (Event Fields)) (v : Standing R) → Runs k s (Some w) settings events v → ProducerAlwaysWaits events
     → HasFile k v (file_after s events) × ((e : Entry Fields) → Among e (file_after s events)
     → Among e (log (after s events).now) × (Among e (after s events).now.stream.fresh → ⊥))
 
--- the producer sends WAIT, and nobody else adds or acknowledges
+-- the producer sends WAIT. No other client adds or acknowledges entries
 abbrev pub NobodyElse : List (Event Fields) → Type 0
 NobodyElse events = ProducerAlwaysWaits events × NoOtherAdds events × NoOtherAcks events
 
--- then each record that the producer knew to be in the stream is undelivered, or pending, or in the file, or deleted,
--- whatever happened later
+-- the law of records that the producer knew to be in the stream, if `NobodyElse` holds. Each record is
+-- undelivered, pending, in the file, or deleted, whatever happened later
 abbrev pub CodeLosesNothing : Type 0 → Type 0
 CodeLosesNothing R = (k : Keeps R) → LooksUp k → (s : Setting Fields) → Fit s → (w : Wait) (settings : Settings)
     (earlier later : List (Event Fields)) (v : Standing R) → Runs k s (Some w) settings (earlier ++ later) v
@@ -124,7 +124,7 @@ CodeLosesNothing R = (k : Keeps R) → LooksUp k → (s : Setting Fields) → Fi
     → Among e (take (known_in (after s earlier).now.producer.stage) (entries s.base s.records))
     → HasFile k v (file_after s (earlier ++ later)) × IsKept (after s (earlier ++ later)).now e
 
--- for this the worker need not send WAIT, if nobody deletes
+-- the law: `CodeLosesNothing` also holds for a worker without WAIT, if no client deletes entries
 abbrev pub CodeLosesNothingAdded : Type 0 → Type 0
 CodeLosesNothingAdded R = (k : Keeps R) → LooksUp k → (s : Setting Fields) → Fit s → (wait : Option Wait)
     (settings : Settings) (earlier later : List (Event Fields)) (v : Standing R)
@@ -133,8 +133,8 @@ CodeLosesNothingAdded R = (k : Keeps R) → LooksUp k → (s : Setting Fields) �
     → Among e (take (known_in (after s earlier).now.producer.stage) (entries s.base s.records))
     → HasFile k v (file_after s (earlier ++ later)) × IsKept (after s (earlier ++ later)).now e
 
--- if the producer once reported that all are in, then when the stream is drained and nothing is deleted, its file has
--- each record once
+-- the law: the file has each record once, if `NobodyElse` holds. The producer reported that all records are
+-- added, the stream is drained, and nothing is deleted
 abbrev pub CodeWritesEachRecord : Type 0 → Type 0
 CodeWritesEachRecord R = (k : Keeps R) → LooksUp k → (s : Setting Fields) → Fit s → (w : Wait) (settings : Settings)
     (earlier later : List (Event Fields)) (v : Standing R) → Runs k s (Some w) settings (earlier ++ later) v

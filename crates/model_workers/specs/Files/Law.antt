@@ -9,7 +9,7 @@ use Rattle.model_server.specs.Group.Law.{Among, IsPending}
 use Rattle.model_workers.specs.Files.Files.{Form, Fields, Files, Event, Goes, Commits, Reopens, first_files, lines, batch}
 use Rattle.model_workers.specs.Files.Files.{whole_lines, happens, run}
 
--- the world after these events, with files that had these bytes before
+-- the world after `events`, if the files had the bytes `before` at first
 abbrev pub after : Form → (Name → List ℕ) → List Event → Files
 after form before events = run form events (first_files before)
 
@@ -17,97 +17,97 @@ after form before events = run form events (first_files before)
 abbrev pub log : Files → List Entry
 log f = log_of f.stream
 
--- these bytes have this line
+-- `line` is a line of `bytes`, with its line feed
 abbrev pub IsLineIn : List ℕ → List ℕ → Type 0
 IsLineIn line bytes =
     (front : List ℕ) × (rest : List ℕ) × AreLines front × HasNoEnd line × (bytes ≡ front ++ (line ++ 10 ∷ rest))
 
--- a crash may leave these bytes of a worker's file: what is committed, and any bytes after it
+-- a crash may leave `bytes` of the file of this worker: the committed bytes, and any bytes after them
 abbrev pub MayLeave : Files → Name → List ℕ → Type 0
 MayLeave f name bytes = StartsWith (f.file name) bytes
 
--- whatever a crash leaves of some worker's file has the line of the entry
+-- some worker's file has the line of the entry, whatever a crash leaves of the file
 abbrev pub IsInAFile : Form → Files → Entry → Type 0
 IsInAFile form f e = (name : Name) × ((bytes : List ℕ) → MayLeave f name bytes → IsLineIn (form.line e) bytes)
 
--- the dead letter of the entry was added, and the reply to that arrived
+-- the dead letter of the entry was added, and the reply to its XADD arrived
 abbrev pub HasLetter : Files → Entry → Type 0
 HasLetter f e = Among e f.letters
 
--- the entry of this id was deleted from the stream
+-- the entry with this id was deleted from the stream
 abbrev pub IsDeleted : Files → Id → Type 0
 IsDeleted f id = Among id f.stream.deleted
 
--- the entry is undelivered; or it is pending; or a line of some file, with its id and its fields in order; or it
--- has a dead letter; or it was deleted
+-- the entry is undelivered, pending, or deleted; or it is in a file, or has a dead letter
 abbrev pub IsKept : Form → Files → Entry → Type 0
 IsKept form f e = Among e f.stream.fresh
     ⊎ (IsPending f.stream e.0 ⊎ (IsInAFile form f e ⊎ (HasLetter f e ⊎ IsDeleted f e.0)))
 
--- so is each entry that was ever added, whatever happened before and happens after
+-- the law: each entry that was ever added is kept, whatever happened before and happens after
 abbrev pub EachEntryIsKept : Type 0
 EachEntryIsKept = (form : Form) (before : Name → List ℕ) (events more : List Event) (e : Entry)
     → Among e (log (after form before events)) → IsKept form (run form more (after form before events)) e
 
--- an entry of this id is in a file or has a dead letter; or it was deleted
+-- an entry with this id is in a file or has a dead letter, or it was deleted
 abbrev pub IsSettled : Form → Files → Id → Type 0
 IsSettled form f id =
     ((fields : Fields) × (IsInAFile form f (id, fields) ⊎ HasLetter f (id, fields))) ⊎ IsDeleted f id
 
--- so is each acknowledged id
+-- the law: `IsSettled` holds for each acknowledged id
 abbrev pub AcknowledgedIsInAFile : Type 0
 AcknowledgedIsInAFile = (form : Form) (before : Name → List ℕ) (events : List Event) (id : Id)
     → Among id (after form before events).stream.acknowledged_ids → IsSettled form (after form before events) id
 
--- the bytes committed to a file remain in it, and more bytes are only appended
+-- the law: the bytes committed to a file remain in it, and more bytes are only appended
 abbrev pub FilesGrow : Type 0
 FilesGrow = (form : Form) (before : Name → List ℕ) (events more : List Event) (name : Name)
     → StartsWith ((after form before events).file name) ((run form more (after form before events)).file name)
 
--- a dead letter remains
+-- the law: a dead letter remains
 abbrev pub LettersStay : Type 0
 LettersStay = (form : Form) (before : Name → List ℕ) (events more : List Event) (e : Entry)
     → HasLetter (after form before events) e → HasLetter (run form more (after form before events)) e
 
--- each dead letter is that of an entry that was added, with its own fields
+-- the law: each dead letter is that of an entry that was added, with the fields of that entry
 abbrev pub LettersAreOfTheLog : Type 0
 LettersAreOfTheLog = (form : Form) (before : Name → List ℕ) (events : List Event) (e : Entry)
     → HasLetter (after form before events) e → Among e (log (after form before events))
 
--- of what was not committed the crash leaves a prefix of what a commit writes, and no other bytes
+-- the crash leaves the committed bytes, and after them only a prefix of what a commit would write
 abbrev pub LeavesFront : Form → Files → Event → Type 0
 LeavesFront form f (Goes event) = Unit {0}
 LeavesFront form f (Commits consumer gives_up) = Unit {0}
 LeavesFront form f (Reopens consumer every torn ids) =
     (gives_up : Entry → Bool) × StartsWith torn (batch form f consumer gives_up)
 
--- so does each of these, from these files on
+-- each crash of these events leaves only a prefix, as in `LeavesFront`
 abbrev pub AllLeaveFronts : Form → Files → List Event → Type 0
 AllLeaveFronts form f [] = Unit {0}
 AllLeaveFronts form f (e ∷ es) = LeavesFront form f e × AllLeaveFronts form (happens form f e) es
 
--- if each crash leaves only a prefix, a file is the whole lines that it had before, and lines of entries that
--- were added, with their own fields
+-- the law: if each crash leaves only a prefix, a file has the complete lines that it had before. After these it
+-- has lines of entries that were added, with their own fields
 abbrev pub FilesAreOfTheLog : Type 0
 FilesAreOfTheLog = (form : Form) (before : Name → List ℕ) (events : List Event)
     → AllLeaveFronts form (first_files before) events → (name : Name)
     → (es : List Entry) × ((e : Entry) → Among e es → Among e (log (after form before events)))
     × ((after form before events).file name ≡ whole_lines (before name) ++ lines form es)
 
--- then each entry that has a line in a new file was added, with its own fields
+-- the law: if each crash leaves only a prefix, each entry with a line in a new file was added, with its own
+-- fields
 abbrev pub LinesAreOfTheLog : Type 0
 LinesAreOfTheLog = (form : Form) (before : Name → List ℕ) (events : List Event)
     → AllLeaveFronts form (first_files before) events → (name : Name) → before name ≡ []
     → (e : Entry) → IsLineIn (form.line e) ((after form before events).file name)
     → Among e (log (after form before events))
 
--- the world after these events, and a crash of this worker
+-- the world after these events, and after a crash and a start of this worker
 abbrev pub restarted : Form → (Name → List ℕ) → List Event → Name → ℕ → List ℕ → List Id → Files
 restarted form before events name every torn ids =
     happens form (after form before events) (Reopens name every torn ids)
 
--- a worker that is started again begins to acknowledge only some of these ids, and each is that of a line of its file,
--- of an entry that was added, with its own fields
+-- the law: a worker that is started again begins to acknowledge only ids of `ids`. Each is the id of a line of
+-- its file, and of an entry that was added, with its own fields
 abbrev pub BeginsWithItsLines : Type 0
 BeginsWithItsLines = (form : Form) (before : Name → List ℕ) (events : List Event) (name : Name) (every : ℕ)
     (torn : List ℕ) (ids : List Id) (id : Id)
@@ -116,8 +116,8 @@ BeginsWithItsLines = (form : Form) (before : Name → List ℕ) (events : List E
     × IsLineIn (form.line (id, fields)) ((restarted form before events name every torn ids).file name)
     × Among (id, fields) (log (after form before events)))
 
--- if each crash leaves only a prefix, and its file was new, it starts with all that it reads back: if those are ids
--- of lines of its file, then it acknowledges each, in this order
+-- the law: if each crash leaves only a prefix, and the file of the worker was new, the worker acknowledges all
+-- ids that it reads back. They must be ids of lines of its file, and are acknowledged in order
 abbrev pub BeginsWithAllItReads : Type 0
 BeginsWithAllItReads = (form : Form) (before : Name → List ℕ) (events : List Event) (name : Name) (every : ℕ)
     (torn : List ℕ) (es : List Entry)
@@ -127,11 +127,11 @@ BeginsWithAllItReads = (form : Form) (before : Name → List ℕ) (events : List
     → IsLineIn (form.line e) ((restarted form before events name every torn (ids_of es)).file name))
     → (restarted form before events name every torn (ids_of es)).stream.workers name ≡ begins_with every (ids_of es)
 
--- a file that `worker_journal` reports as repaired has the whole lines of what it had
+-- the law: a file that `worker_journal` repairs keeps its complete lines
 abbrev pub RepairsToWholeLines : Type 0
 RepairsToWholeLines = (bytes : List ℕ) (new : Option (List ℕ)) → IsRepaired (Some bytes) new
     → new ≡ Some (whole_lines bytes)
 
--- the lines of `worker_journal` are a form
+-- the law: the lines of `worker_journal` are a `Form`
 abbrev pub TextIsAForm : Type 0
 TextIsAForm = (form : Form) × (form.line ≡ line_of)

@@ -8,8 +8,8 @@ use Rattle.worker.specs.Session.{Standing}
 use Rattle.worker.specs.declared.state.Settings.{Settings}
 use Rattle.model_workers.specs.Loops.Loop.{Drains}
 
--- the law: if a worker lives at first, it lives after such rounds, and exactly those entries were deleted meanwhile
--- that the replies in these rounds reported
+-- the law: a worker that lives before the rounds of a loop lives after them. Exactly the entries that the
+-- replies of these rounds report are deleted in between
 abbrev pub LoopsAreLived : Type 0
 LoopsAreLived = (settings : Settings) (old new : Link) (v y : Standing Doings) (deleted told : List Id)
     → Lives settings v deleted → Drains settings old v new y told → Lives settings y (deleted ++ told)

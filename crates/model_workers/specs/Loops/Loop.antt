@@ -14,15 +14,15 @@ use Rattle.worker.specs.declared.state.Settings.{Settings}
 use Rattle.worker.specs.declared.worker.Progress.TheVariants.{GoesOn, Stopped}
 use Rattle.worker.specs.DeadLetters.Besides.{Besides, BreaksBesides, BreaksLooking, Looks}
 
--- its reply was skipped, or had arrived before; then a command that only reads was sent, or broke off
+-- a reply was skipped, or had arrived before. Then a command that changes nothing was sent, or failed
 pub record Looked (old new : Link) : Type 0 where
   pub link : Link
   pub passed : (link ≡ old) ⊎ ((a : wire.Answer) × ReceivesAnswer old link a)
   pub looked : Looks link new ⊎ BreaksLooking link new
 
 module _ (settings : Settings) where
-  -- rounds after which the worker continues, and other commands between them. In these rounds the server reported
-  -- exactly the entries of these ids as deleted
+  -- rounds after each of which the worker continues, and other commands between them. The list has the ids of
+  -- the entries that the replies of these rounds reported as deleted
   pub data Loops : Link → Standing Doings → Link → Standing Doings → List Id → Type 0 where
     ends : (l : Link) (v : Standing Doings) → Loops l v l v []
     besides : (l m n : Link) (v y : Standing Doings) (told : List Id) → Besides l m → Loops m v n y told
@@ -31,15 +31,15 @@ module _ (settings : Settings) where
         (t : Turned done_too committed_too settings l m v u asked GoesOn) → Loops m u n y told
         → Loops l v n y (deleted_told settings v t.turn.answer ++ told)
 
-  -- nothing more was sent; or the request was sent with the acknowledgement that failed; or a command that only
-  -- reads was sent
+  -- what was sent after a round that failed: nothing, the request that was sent with its acknowledgement, or a
+  -- command that changes nothing
   abbrev pub IsLeft : Link → Link → Standing Doings → Type 0
   IsLeft old new v = (new ≡ old)
       ⊎ (((e f : RunError) × LeavesNext old new (next_command settings (asking committed_too settings v)) e f)
       ⊎ Looked old new)
 
-  -- such rounds, and then an end: another command broke off, or something else did; or the handler returned `stop`; or
-  -- a round failed, after which the worker sends nothing more
+  -- rounds as in `Loops`, and then an end. Another command broke off, the handler returned `stop`, or a round
+  -- failed
   pub data Stops : Link → Standing Doings → Link → Standing Doings → List Id → Type 0 where
     breaks : (l m n : Link) (v y : Standing Doings) (told : List Id) → Loops l v m y told → BreaksBesides m n
         → Stops l v n y told
@@ -50,6 +50,6 @@ module _ (settings : Settings) where
         → (f : Fails done_too committed_too settings m k u y e) → IsLeft k n u
         → Stops l v n y (told ++ deleted_at settings m k u y e f)
 
-  -- either of the two
+  -- rounds as in `Loops`, or as in `Stops`
   abbrev pub Drains : Link → Standing Doings → Link → Standing Doings → List Id → Type 0
   Drains old v new y told = Loops old v new y told ⊎ Stops old v new y told

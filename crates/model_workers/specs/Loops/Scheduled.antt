@@ -12,7 +12,7 @@ use Rattle.worker.specs.declared.state.Settings.{Settings}
 use Rattle.model_workers.specs.Loops.Loop.{Loops, Stops, ends, besides, turns, breaks, stops, fails}
 
 module _ (s : Setting Fields) (settings : Settings) where
-  -- the events of these rounds, if others do this meanwhile, for each round in order
+  -- the events of these rounds. The list of `Meantime` says what others do in each round, in order
   abbrev pub loop_events : (old new : Link) (v y : Standing Doings) (told : List Id)
       → Loops settings old v new y told → List Meantime → List (Event Fields)
   loop_events old new v y told (ends l u) ms = []
@@ -21,7 +21,7 @@ module _ (s : Setting Fields) (settings : Settings) where
   loop_events old new v y told (turns l m n u x z asked ids t p) (e ∷ ms) =
       round_events settings u e t.turn.verdicts ++ loop_events m n x z ids p ms
 
-  -- the premise: in each of them the worker gets the reply that the model's server sent
+  -- the premise: in each round the worker gets the reply that the model's server sent
   abbrev pub HearsEach : List (Event Fields) → (old new : Link) (v y : Standing Doings) (told : List Id)
       → Loops settings old v new y told → List Meantime → Type 0
   HearsEach events old new v y told (ends l u) ms = Unit {0}
@@ -31,7 +31,7 @@ module _ (s : Setting Fields) (settings : Settings) where
       HearsTheAnswer settings u e s (after s events) t.turn.answer
       × HearsEach (events ++ round_events settings u e t.turn.verdicts) m n x z ids p ms
 
-  -- and those of the last round, if others do this in it
+  -- the events of these rounds and of the last one. The last argument says what others do in the last round
   abbrev pub stop_events : (old new : Link) (v y : Standing Doings) (told : List Id)
       → Stops settings old v new y told → List Meantime → Meantime → List (Event Fields)
   stop_events old new v y told (breaks l m n u x ids p b) ms e = loop_events l m u x ids p ms
@@ -48,8 +48,8 @@ module _ (s : Setting Fields) (settings : Settings) where
   HearsToTheEnd events old new v y told (fails l m k n u x z error ids p f left) ms e = HearsEach events l m u x ids p ms
       × FailsHearing settings m k x z e s (after s (events ++ loop_events l m u x ids p ms)) error f
 
--- the law: a schedule followed by rounds of the loop, and possibly an end of it, is a schedule. Others may meanwhile
--- do what the worker's own search for dead letters does
+-- the law: a schedule, then the rounds of a loop, and possibly its end, are a schedule. In these rounds others
+-- may do what the worker's own search for dead letters does
 pub record LoopsRun : Type 0 where
   pub loops : (s : Setting Fields) (settings : Settings) (events : List (Event Fields)) (old new : Link)
       (v y : Standing Doings) (told : List Id) (p : Loops settings old v new y told) (ms : List Meantime)

@@ -15,7 +15,7 @@ use Rattle.worker.specs.Session.{Standing}
 use Rattle.worker.specs.declared.state.Settings.{Settings}
 use Rattle.model_workers.specs.System.Once.{Runs, begins, waits, turns, fails, restarts}
 
--- the server respects COUNT: its reply to the consumer has no more entries than that. It redelivers to others one
+-- the server respects COUNT: its reply to the consumer has at most `n` entries. It redelivers to others one
 -- entry at a time
 abbrev pub KeepsToCount : Setting Fields → World Fields → Event Fields → Type 0
 KeepsToCount s w (Ask n pick next) =
@@ -23,7 +23,7 @@ KeepsToCount s w (Ask n pick next) =
 KeepsToCount s w (Else event) = length (group.again w.stream event) ≤ 1
 KeepsToCount s w event = Unit {0}
 
--- so it does in each of these events
+-- `KeepsToCount` holds for each of these events
 abbrev pub AllKeepToCount : Setting Fields → List (Event Fields) → World Fields → Type 0
 AllKeepToCount s [] w = Unit {0}
 AllKeepToCount s (e ∷ es) w = KeepsToCount s w e × AllKeepToCount s es (happens s w e)
@@ -38,7 +38,7 @@ StartsAlone (fails settings events old new v x e m f hears r) = StartsAlone r
 StartsAlone (restarts settings with_settings events v x moment t r) =
     (with_settings.one_at_a_time ≡ true) × StartsAlone r
 
--- then a pending entry that was delivered n times was delivered by itself at least n - 1 times
+-- the law: a pending entry that was delivered n times was delivered by itself at least n - 1 times
 abbrev pub CodeIsCountedAlone : Type 0
 CodeIsCountedAlone = (s : Setting Fields) (settings : Settings) (events : List (Event Fields)) (v : Standing Doings)
     (r : Runs s settings events v) → StartsAlone r → AllKeepToCount s events first_world → (p : Pending)

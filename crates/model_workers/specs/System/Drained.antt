@@ -19,7 +19,8 @@ use Rattle.worker.specs.declared.state.Asked.{Asked}
 use Rattle.worker.specs.declared.state.Settings.{Settings}
 use Rattle.worker.specs.declared.worker.Progress.{Progress}
 
--- the reply of the server of this world: to XACK that it is done, and otherwise its first n entries
+-- the reply of the server in the world `w`: `acknowledged` to XACK, and its first `n` entries to a request for
+-- entries
 abbrev pub page_answer : ℕ → Name → World Fields → (to_acknowledge : List Id) → Phase → Answer Fields
 page_answer n name w (i ∷ ids) phase = acknowledged
 page_answer n name w [] (own id) = own_pending (reread (own_pick n name id w) name w.pending w.deleted w.seen)
@@ -27,19 +28,19 @@ page_answer n name w [] (claiming id) =
     taken_over (next_claim n id w.pending w.seen) (claim_answer (claim_pick n id w) w.pending w.deleted w.seen)
 page_answer n name w [] (reading rounds) = news (map whole (given w.deleted n w.fresh))
 
--- its reply to the worker of this name, which commits before it sends its request
+-- the reply of the server to the next request of the worker `name`
 abbrev pub page_for : ℕ → Name → World Fields → Answer Fields
 page_for n name w =
     page_answer n name w (at_request (w.workers name)).to_acknowledge (at_request (w.workers name)).phase
 
--- in its round the worker gets this page, and its handler returns `done` for each entry
+-- in its round the worker gets the reply `page_for`, and its handler returns `done` for each entry
 pub record HearsThePage (settings : Settings) (name : Name) (w : World Fields) (v : Standing Doings)
     (turn : Turn) : Type 0 where
   pub heard : hears settings (asking committed_too settings v).asked turn.answer
       ≡ Some (told (page_for settings.count name w))
   pub all : turn.verdicts ≡ all_done (entries_in (page_for settings.count name w))
 
--- then its machine is that of the model after a round
+-- the law: after such a round the worker's machine is that of the model after a round
 abbrev pub OneRoundIsOne : Type 0
 OneRoundIsOne = (settings : Settings) (old new : Link) (v x : Standing Doings) (question : Asked) (p : Progress)
     (name : Name) (w : World Fields) (t : Turned done_too committed_too settings old new v x question p)
@@ -55,13 +56,14 @@ pub record RoundOver (settings : Settings) (name : Name) (w : World Fields) (v x
   pub turned : Turned done_too committed_too settings old new v x question progress
   pub page : HearsThePage settings name w v turned.turn
 
--- this number of them one after the other, while nothing else happens to the server
+-- this number of rounds were made in order, while nothing else happened to the server
 abbrev pub RoundsOver : ℕ → Settings → Name → World Fields → Standing Doings → Standing Doings → Type 0
 RoundsOver zero settings name w v x = x ≡ v
 RoundsOver (suc so_many) settings name w v x = (y : Standing Doings) × RoundOver settings name w v y
     × RoundsOver so_many settings name (round settings.count name w) y x
 
--- whatever happened before, the machine is that of the model after this number of rounds, and enough of them drain all
+-- the law: after these rounds the machine is that of the model, whatever happened before. Enough rounds drain
+-- the stream
 abbrev pub EnoughRoundsDrain : Type 0
 EnoughRoundsDrain = (settings : Settings) (name : Name) (events : List (Event Fields)) (v x : Standing Doings)
     (so_many : ℕ) → v.machine ≡ (group.run events empty_world).workers name

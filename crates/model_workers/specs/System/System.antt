@@ -57,7 +57,7 @@ world_with s = record (empty_world {F = Fields}) {
   acks = s.acks;
 }
 
--- what the server does; what a worker does is not an event of the server
+-- the server after an event. Events of a worker do not change it
 abbrev pub serves : Server → group.Event Fields → Server
 serves s (Comes which verdicts) = s
 serves s (Commit consumer) = s
@@ -84,8 +84,7 @@ pub record System : Type 0 where
   pub desks : Name → Desk
   pub letters : List Entry  -- the entries whose dead letter was added, and the reply to that arrived
 
--- a new worker with ids that it has to acknowledge. Its handler has these entries as committed
--- before
+-- a new worker that has to acknowledge `ids`. Its handler has the entries `before` as committed
 abbrev pub new_worker : ℕ → List Id → List Entry → Standing Doings
 new_worker every ids before = record {
   machine = begins_with every ids;
@@ -132,59 +131,59 @@ pub data Move : Type 0 where
   -- have any entries as committed before. Its queue is empty
   Restarts : (name : Name) (settings : Settings) (torn : List ℕ) (ids : List Id) (before : List Entry) → Move
 
--- a worker after its commit
+-- the worker after its commit, if it commits
 abbrev pub committed : Standing Doings → Standing Doings
 committed w = record w {
   machine = at_request w.machine;
   history = history_at_request committed_too w.machine w.history;
 }
 
--- the entries that it commits
+-- the entries that the worker commits now
 abbrev pub files_now : Standing Doings → List Entry
 files_now w = if commits w.machine then w.history.loose else []
 
--- a worker that waits for the reply to its command
+-- the worker while it waits for the reply to its command
 abbrev pub waiting : Settings → Standing Doings → Standing Doings
 waiting settings w = record w { asked = asks w.group w.machine.phase w.machine.to_acknowledge }
 
--- the contents that it takes from a reply
+-- the meaning of the reply to this worker
 abbrev pub heard : Settings → Standing Doings → wire.Answer → Option Heard
 heard settings w reply = hears settings w.asked reply
 
--- a worker after this reply
+-- the worker after this reply
 abbrev pub having : Settings → Standing Doings → wire.Answer → List Verdict → Standing Doings
 having settings w reply verdicts =
     having_heard done_too w (group_after settings w.group w.asked reply) (heard settings w reply) verdicts
 
--- the replies that are still on their way after the one of that number arrived with this
+-- the replies that are still on their way after the worker took the reply `which`, by its meaning
 abbrev pub still_coming : List (Reply Fields) → ℕ → Option Heard → List (Reply Fields)
 still_coming replies which None = replies
 still_coming replies which (Some (told answer)) = but replies which
 still_coming replies which (Some no_group) = replies
 still_coming replies which (Some group_made) = replies
 
--- the file of a worker after a crash that left these bytes after what is committed
+-- the file of a worker after a crash that left the bytes `torn` after the committed ones
 abbrev pub repaired : System → Name → List ℕ → List ℕ
 repaired s name torn = whole_lines (s.file name ++ torn)
 
--- the committed entries then
+-- the committed entries after a crash that left the bytes `torn`
 abbrev pub filed_then : Form → System → Name → List ℕ → List Entry
 filed_then form s name torn = s.filed ++ filter (is_in form (repaired s name torn)) (s.workers name).history.loose
 
--- those of them that are lines of the file
+-- the committed entries that are lines of the repaired file
 abbrev pub read_back : Form → System → Name → List ℕ → List Entry
 read_back form s name torn = filter (is_in form (repaired s name torn)) (filed_then form s name torn)
 
--- the first entry only
+-- the first entry, as a list of at most one
 abbrev pub first : List Entry → List Entry
 first [] = []
 first (e ∷ es) = e ∷ []
 
--- the entry whose dead letter is added: the first one of the queue, unless it was added before
+-- the entry whose dead letter is added: the first of the queue, unless its dead letter was added before
 abbrev pub lettered_now : Desk → List Entry
 lettered_now d = if d.added then [] else first d.waiting
 
--- the queue after that
+-- the queue after the dead letter of the first entry was added
 abbrev pub with_letter : Desk → Desk
 with_letter d = record d { added = not (is_empty d.waiting) }
 
@@ -192,15 +191,15 @@ with_letter d = record d { added = not (is_empty d.waiting) }
 abbrev pub acknowledges_now : Desk → List Id
 acknowledges_now d = if d.added then ids_of (first d.waiting) else []
 
--- the queue without its first one
+-- the queue without its first entry
 abbrev pub without_first : Desk → Desk
 without_first d = record { waiting = drop 1 d.waiting; added = false }
 
--- the system with this queue
+-- the system `s`, but the worker `name` has the queue `d`
 abbrev pub with_desk : System → Name → Desk → System
 with_desk s name d = record s { desks = with_one s.desks name d }
 
--- the system with this worker
+-- the system `s`, but the worker `name` has the state `w`
 abbrev pub with_worker : System → Name → Standing Doings → System
 with_worker s name w = record s { workers = with_one s.workers name w }
 
@@ -245,7 +244,7 @@ moves form s (Restarts name settings torn ids before) =
       desks = with_one s.desks name new_desk;
     }
 
--- a whole schedule
+-- the system after all these moves
 abbrev pub run : Form → List Move → System → System
 run form [] s = s
 run form (m ∷ ms) s = run form ms (moves form s m)

@@ -4,16 +4,16 @@ ghost use Rattle.model_workers.specs.Failover.Schedule.{CodeLosesNothing, CodeLo
 ghost use Rattle.model_workers.specs.Failover.Schedule.{CodeWritesOnce, CodeWritesTheLog};
 ghost use Rattle.model_workers.specs.Failover.Schedule.{RunsAreEvents, RunsWait};
 
-/// A handler that keeps entries, and adds none whose id it has, handles a reply and a commit exactly as the
+/// A handler keeps entries, and adds none whose id it has. It handles a reply and a commit exactly as the
 /// consumer of `model_server::failover` does.
 pub fn entries_are_looked_up()
     ensures { EntriesLookUp }
 {}
 
-/// A worker whose handler checks its file (`LooksUp`) is the consumer of `model_server::failover`, in which the server
-/// may return to an earlier state. This holds after each schedule (`Runs`) of rounds, of rounds that fail or are
-/// not confirmed, of broken connections, of crashes with the start after them, and of failovers. If its rounds are
-/// those of `round_confirmed`, a WAIT follows each of its requests for entries.
+/// A worker whose handler checks its file (`LooksUp`) is the consumer of `model_server::failover`, in which the
+/// server may return to an earlier state. This holds after each schedule (`Runs`) of rounds, of failed or
+/// unconfirmed rounds, of broken connections, of crashes with the start after them, and of failovers. If the
+/// worker makes its rounds by `round_confirmed`, a WAIT follows each of its requests for entries.
 ///
 /// There are four premises. The worker gets the reply that the model's server sent. The reply to WAIT is the
 /// one that this server sent. A start reads back at least the lines of its last commit. After a failover the
@@ -25,12 +25,12 @@ pub fn rounds_are_those_of_failover<R>()
 
 /// After each schedule no id is twice in the worker's file, with or without WAIT.
 ///
-/// If the worker and the producer send WAIT, each entry of the file is in the log, with its own fields.
-/// This holds after any failover, and nobody gets it as new. Each record that the producer knew to be in the stream
-/// is undelivered, or pending, or in the file, or was deleted. If the producer once reported that all are in, the
-/// file of a drained stream has each record once. For these two nobody else adds or acknowledges
-/// (`NobodyElse`), and the ids fit (`Fit`). If nobody deletes, the worker need not send WAIT for the first
-/// of them.
+/// If the worker and the producer send WAIT, each entry of the file is in the log, with its own fields. This
+/// holds after any failover, and no consumer gets such an entry as new. Each record that the producer knew to
+/// be in the stream is undelivered, pending, in the file, or deleted. If the producer once reported that all
+/// are added, the file of a drained stream has each record once. The last two laws need that no other client
+/// adds or acknowledges (`NobodyElse`), and that the ids fit (`Fit`). If no client deletes, the worker need not
+/// send WAIT for the first of these two.
 pub fn the_code_writes_each_entry_once<R>()
     ensures once { CodeWritesOnce R }
     ensures of_log { CodeWritesTheLog R }

@@ -15,8 +15,8 @@ pub fn each_entry_is_kept()
     ensures { EachEntryIsKept }
 {}
 
-/// An entry that is acknowledged is a line of some worker's file, whatever a crash leaves of it; or
-/// it has a dead letter, or was deleted.
+/// Each acknowledged entry is a line of some worker's file, whatever a crash leaves of that file; or it has a
+/// dead letter, or was deleted.
 pub fn what_is_acknowledged_is_in_a_file()
     ensures { AcknowledgedIsInAFile }
 {}

@@ -14,9 +14,8 @@ pub fn open<D: LogFile + Drop>(alloc: Global, file: D) -> Result<LineLog<D>, Log
     LineLog::open(alloc, file)
 }
 
-/// Commits the gathered lines. After `Ok` the log has the file that the worker has
-/// after `Commits`; after `Err` it has the same file as before. A crash at any moment of the call
-/// leaves what `MayLeave` allows.
+/// Commits the gathered lines. After `Ok` the log has the file that the worker has after `Commits`. After `Err`
+/// the log has the file that it had before. A crash at any moment of the call leaves what `MayLeave` allows.
 pub fn commit<D: LogFile + Drop>(log: &mut LineLog<D>) -> Result<(), LogError>
     ensures committed { OnOk result (CommitsSo D.seen D.may_leave D.is_sound log.old.batch.items
         log.old.file log.old.len log.old.is_broken log.new.file log.new.len log.new.is_broken) }

@@ -9,10 +9,10 @@ pub fn loops_are_lived()
     ensures { LoopsAreLived }
 {}
 
-/// The rounds of the loop, and the one that ends it, are a schedule of `model_workers::system` (`Runs`), over any
-/// number of lives. The law `the_code_writes_each_entry_once` holds for each such schedule. The premise of a round is
-/// that the worker gets the reply that the model's server sent. There the commands of the search for dead letters count
-/// as those of others.
+/// The rounds of the loop, and the one that ends it, are a schedule of `model_workers::system` (`Runs`), over
+/// any number of lives. The law `the_code_writes_each_entry_once` holds for each such schedule. The premise of
+/// a round is that the worker gets the reply that the model's server sent. In these schedules the commands of
+/// the search for dead letters count as those of other clients.
 pub fn loops_are_scheduled()
     ensures { LoopsRun }
 {}

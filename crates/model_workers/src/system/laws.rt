@@ -20,16 +20,16 @@ pub fn each_entry_is_kept()
     ensures acknowledged { AcknowledgedIsSettled }
 {}
 
-/// A dead letter remains, whatever moves follow. Each dead letter is that of an entry that was added, with its own
-/// fields in order.
+/// A dead letter remains, whatever moves follow. Each dead letter is that of an entry that was added, and has
+/// the fields of that entry in order.
 pub fn letters_stay()
     ensures stay { LettersStay }
     ensures of_the_log { LettersAreOfTheLog }
 {}
 
-/// The contract of `Worker::round` describes a list of moves of the worker: after a round that returns `Ok`, and
-/// after one that fails, these moves lead to its state. Moves of the server and of other workers
-/// do not change it.
+/// The contract of `Worker::round` describes a list of moves of the worker. These moves lead to the state of
+/// the worker after a round, whether the round returns `Ok` or fails. Moves of the server and of other workers
+/// do not change this state.
 pub fn rounds_are_moves()
     ensures others { OthersChangeNothing }
     ensures rounds { RoundsAreMoves }
@@ -47,9 +47,9 @@ pub fn desks_are_moves()
     ensures others { OthersLeaveTheDesk }
 {}
 
-/// The contracts of `Worker::resumed` and `Worker::new` describe a move of the worker, after a crash that left any
-/// bytes after what its file had. The premise is that it gets ids of entries that are committed, and that are lines of
-/// that file.
+/// The contracts of `Worker::resumed` and `Worker::new` describe a move of the worker, after a crash that left
+/// any bytes after the committed ones. The premise is that the worker gets ids of entries that are committed,
+/// and that are lines of its file.
 pub fn starts_are_moves()
     ensures { StartsAreMoves }
 {}
@@ -63,9 +63,9 @@ pub fn rounds_that_hear_the_page_are_rounds()
 {}
 
 /// The contracts of `Worker::round`, `Worker::new` and `Worker::resumed` describe events of the consumer of
-/// `model_server::once`: a round that returns `Ok`, one that fails, and a crash with the start after it. So
-/// after each schedule of them (`Runs`) the worker and its file are that consumer. The rounds of
-/// `Worker::run` are such rounds too.
+/// `model_server::once`. These are a round that returns `Ok`, a round that fails, and a crash with the start
+/// after it. So after each schedule of these events (`Runs`) the worker and its file are that consumer. The
+/// rounds of `Worker::run` are rounds of such a schedule too.
 ///
 /// The premise of a round is that the worker gets the reply of the model's server to its request
 /// (`HearsTheAnswer`). The premise of a start is that it reads back the lines of the last commit. This
