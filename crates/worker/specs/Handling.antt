@@ -1,4 +1,4 @@
--- What passed between a worker and its handler.
+-- The verdicts and the history of a worker's handler.
 use Rattle.std.specs.Prelude.{ℕ, List, [], ◌∷◌}
 use Rattle.model_server.specs.Group.Worker as machine
 use Rattle.stream_in_place.specs.Copied.{pairs_or_none}

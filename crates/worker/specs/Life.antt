@@ -15,7 +15,7 @@ use Rattle.worker.specs.declared.state.Asked.TheVariants.{Nothing}
 use Rattle.worker.specs.declared.state.Settings.{Settings}
 use Rattle.worker.specs.declared.worker.Progress.{Progress}
 
--- the id, if the entry has nil in place of its fields, since it was deleted from the stream; else no id
+-- the id if the entry has nil in place of its fields, since it was deleted from the stream. Otherwise no id
 abbrev pub deleted_one : {F : Type 0} → Id → Option F → List Id
 deleted_one id None = id ∷ []
 deleted_one id (Some fields) = []

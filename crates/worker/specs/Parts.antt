@@ -64,8 +64,8 @@ IsOfGroup (Some (told answer)) = ⊥
 IsOfGroup (Some no_group) = Unit {0}
 IsOfGroup (Some group_made) = Unit {0}
 
--- the error for the error reply `text`. No command waits for a reply; or `text` is an error of the server.
--- `GroupIsGone` is for an error that reports that the group is gone
+-- the error for the error reply `text`. `NotAsked`: no command waits for a reply. `GroupIsGone`: the reply says
+-- that the group is gone. `Server`: any other error reply
 abbrev pub IsRefused : Asked → List ℕ → WorkerError → Type 0
 IsRefused question text causes.NotAsked = question ≡ asked.Nothing
 IsRefused question text (causes.Server e) =

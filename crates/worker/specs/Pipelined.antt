@@ -57,8 +57,8 @@ NamesNext next (causes.Request e) f = Unit {0}
 NamesNext next (causes.Send e) f = Unit {0}
 NamesNext next (causes.Receive named e) f = Unit {0}
 
--- what happens to the second command, if the first round failed. Only a prefix of it was sent; or all of it was
--- sent, and its reply, if one was received, was discarded
+-- the second command, if the first round failed. Either only a prefix of the command was sent, or all of it. In
+-- the second case its reply is discarded, if one is received
 abbrev pub LeavesNext : Link → Link → List (List ℕ) → RunError → RunError → Type 0
 LeavesNext old new args (causes.Request e) f = ⊥
 LeavesNext old new args (causes.Send e) f = (f ≡ causes.Send e) × SendsFront old new (command_bytes args)

@@ -9,8 +9,8 @@ use crate::worker::Progress;
 use std::alloc::{AllocError, Global};
 use stream_in_place::{EntriesRef, EntryRef, EntryRoom, SentRow};
 
-/// Passes one entry to the handler. Its id is stored before the call and removed if the entry is not done, so memory
-/// cannot run out between the two.
+/// Passes one entry to the handler. The id is stored before the call, and removed if the entry is not done. So
+/// memory cannot run out after the call.
 fn take_entry<H: Handler>(
     alloc: Global,
     ids: &mut Vec<String>,

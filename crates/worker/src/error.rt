@@ -10,7 +10,7 @@ use thiserror::Error;
 /// Why no command was written. No bytes were appended.
 #[derive(Clone, Copy, Debug, PartialEq, Eq, Error)]
 pub enum RequestError {
-    /// The handler's commit failed; nothing of it is acknowledged.
+    /// The handler's commit failed. Nothing of that commit is acknowledged.
     #[error("what was done could not be committed")]
     NotCommitted,
     /// The command is too long for the protocol.
@@ -63,17 +63,18 @@ pub enum WorkerError {
     /// No command waits for a reply.
     #[error("an answer to no question")]
     NotAsked,
-    /// The server returned an error, such as `LOADING` or `READONLY`, or `NOGROUP` to the first command of a worker
-    /// that creates no group. `answered` leaves the worker as it was; `round` and `run` begin again.
+    /// The server returned an error, such as `LOADING` or `READONLY`, or `NOGROUP` to the first command of a
+    /// worker that creates no group. `answered` does not change the worker. After this error `round` and `run`
+    /// begin again.
     #[error("the server replied {0}")]
     Server(ServerError),
-    /// The group was destroyed: the server returned `NOGROUP` to a command after the first. The worker does not create
-    /// it again, since it would start at another id. `answered` leaves the worker as it was; `round` and `run` begin
-    /// again.
+    /// The group was destroyed: the server returned `NOGROUP` to a command after the first. The worker does not
+    /// create the group again, since a new group would start at another id. `answered` does not change the
+    /// worker. After this error `round` and `run` begin again.
     #[error("the group is gone: the server replied {0}")]
     GroupIsGone(ServerError),
-    /// The reply belongs to no command: it is a push message, or an aggregate with an error in it. `answered` leaves
-    /// the worker as it was; `round` and `run` begin again.
+    /// The reply belongs to no command: it is a push message, or an aggregate with an error in it. `answered`
+    /// does not change the worker. After this error `round` and `run` begin again.
     #[error("no answer of a command")]
     NotAnAnswer,
     /// The reply is not of the kind that the command returns.
@@ -161,11 +162,11 @@ pub enum RunError {
     /// No command was written, and nothing was sent.
     #[error("{0}")]
     Request(RequestError),
-    /// Only a prefix of its command was sent.
+    /// Only a prefix of the command was sent.
     #[error("{0}")]
     Send(ConnectionError),
-    /// Its command was sent, and no reply to it was taken: the bytes that were received stay in the buffer. They may be
-    /// a whole reply if memory ran out.
+    /// The command was sent, and no reply to it was taken. The received bytes stay in the buffer. If memory ran
+    /// out, they may be a whole reply.
     #[error("{asked}: {error}")]
     Receive {
         /// The command that was sent.

@@ -6,7 +6,7 @@ use crate::handler::{Handler, NotCommitted, Verdict};
 use std::alloc::Global;
 use stream_in_place::{EntryRef, SentRow};
 
-/// Keeps a copy of each entry, and returns `Stop` if there is no memory for it.
+/// Keeps a copy of each entry, and returns `Stop` if there is no memory for the copy.
 #[derive(Debug, Drop)]
 pub struct Gathered {
     /// The entries that are not committed yet.

@@ -26,8 +26,8 @@ pub struct NotCommitted;
 
 /// The handler of a worker's entries.
 ///
-/// A `History` is a record of the handler's calls. If it is a list to which `with_verdict` and `with_commit` append, it
-/// has every entry with its verdict and every commit, in order.
+/// A `History` is a record of the handler's calls. If `History` is a list to which `with_verdict` and
+/// `with_commit` append, it has every entry with its verdict and every commit, in order.
 pub trait Handler {
     ghost History: { Type 0 };
 
@@ -48,7 +48,7 @@ pub trait Handler {
         ensures { history self.new ≡ with_verdict (history self.old)
             (pair_of entry.now) (verdict_of result) };
 
-    /// Makes all its work durable, also work that an earlier commit failed to make so. It is called before each
+    /// Makes all its work durable, including work of an earlier commit that failed. This is called before each
     /// acknowledgement, once for a batch of entries. An entry that is not committed is not acknowledged.
     fn commit(&mut self, alloc: Global) -> Result<(), NotCommitted>
         ensures ok { OnOk result (history self.new ≡ with_commit (history self.old)) }

@@ -16,8 +16,9 @@ pub fn nothing_is_lost()
     ensures delivered { HandledAsDelivered Pairs }
 {}
 
-/// The contracts of `Worker::answered` and `Worker::request` are steps of the model. Afterwards the worker is in the
-/// state of the model's worker, its handler has done and committed the same, and it sends the same acknowledgement.
+/// The contracts of `Worker::answered` and `Worker::request` are steps of the model. Afterwards the worker is
+/// in the state of the model's worker. Both handlers have done and committed equal entries, and both workers
+/// send equal acknowledgements.
 pub fn stays_in_step()
     ensures answers { AnswersStayInStep }
     ensures cuts { CutsStayInStep }

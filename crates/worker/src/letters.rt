@@ -48,8 +48,8 @@ struct Letter {
 /// Moves entries that are given up to a stream of dead letters, without input and output. Each letter has the entry's
 /// id, its delivery count and its fields. The entry is acknowledged after the server has returned the letter's id.
 ///
-/// The entry stays pending until then, so a handler returns `Verdict::LeavePending` and gives it up here. After a crash
-/// it is delivered again, and its letter may be added twice.
+/// The entry stays pending until then. So a handler returns `Verdict::LeavePending` and gives the entry up
+/// here. After a crash the entry is delivered again, and its letter may be added twice.
 #[derive(Debug, Drop)]
 pub struct DeadLetters {
     key: String,
@@ -78,8 +78,8 @@ impl DeadLetters {
         }
     }
 
-    /// Gives up an entry with this id, delivery count and fields. It queues `XADD dead * entry id deliveries n field
-    /// value ..`. An `Err` changes nothing.
+    /// Gives up an entry with this id, delivery count and fields. Queues `XADD dead * entry id deliveries n
+    /// field value ..`. An `Err` changes nothing.
     pub fn give_up<F: ToFieldArgs>(
         &mut self,
         alloc: Global,

@@ -1,5 +1,5 @@
-//! A worker of a consumer group that loses no entry. It is a state machine without input and output: it writes the next
-//! command, takes the reply, and acknowledges just what its handler has done and committed.
+//! A worker of a consumer group that loses no entry. The worker is a state machine without input and output. It
+//! writes the next command, takes the reply, and acknowledges only what its handler has done and committed.
 #![tactic(auto)]
 
 mod commands;

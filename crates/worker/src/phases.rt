@@ -10,7 +10,7 @@ use crate::state::Phase;
 use std::alloc::{AllocError, Global};
 use stream_in_place::{EntriesRef, SentRow};
 
-/// The phase after a read of its own pending entries: it reads on until none is left.
+/// Returns the phase after a read of own pending entries. The worker reads on until none is left.
 #[tactic(auto, using(crate::proofs::PhaseLemmas::after_last))]
 pub fn next_own(entries: &[SentRow]) -> Result<Phase, AllocError>
     ensures { IfOk result (λ p. phase_of p
@@ -22,7 +22,7 @@ pub fn next_own(entries: &[SentRow]) -> Result<Phase, AllocError>
     }
 }
 
-/// The phase after borrowed own pending entries, if there are any.
+/// Returns the phase after borrowed own pending entries, if there are any.
 pub fn next_own_in_place(
     alloc: Global,
     entries: &Option<EntriesRef<'_>>,
@@ -35,7 +35,7 @@ pub fn next_own_in_place(
     }
 }
 
-/// The phase that reads on after the last of these entries.
+/// Returns the phase that reads on after the last of these entries.
 fn continue_after_last(alloc: Global, entries: EntriesRef<'_>) -> Result<Phase, AllocError>
     ensures { IfOk result (λ p. phase_of p ≡ after_own (all_delivered entries.entry)) }
 {
@@ -49,7 +49,8 @@ fn continue_after_last(alloc: Global, entries: EntriesRef<'_>) -> Result<Phase, 
     }
 }
 
-/// The phase after a claim: it claims on from the id that the server returned, until it is `0-0`.
+/// Returns the phase after a claim. The worker claims on from the id that the server returned, until that is
+/// `0-0`.
 pub fn next_claim(next: String) -> Phase
     ensures { phase_of result ≡ after_claim (string_bytes next) }
 {
@@ -60,7 +61,7 @@ pub fn next_claim(next: String) -> Phase
     }
 }
 
-/// The phase after a read of new entries: after `every` reads, idle entries are claimed.
+/// Returns the phase after a read of new entries. After `every` reads the worker claims idle entries.
 pub fn next_round(every: usize, phase: Phase) -> Phase
     ensures { phase_of result ≡ after_news every (phase_of phase) }
 {

@@ -110,7 +110,7 @@ impl Worker {
         Ok(next)
     }
 
-    /// Takes the reply to the acknowledgement, and the one to the command after it.
+    /// Takes the reply to the acknowledgement, and then the reply to the next command.
     fn take_both<H: Handler, R: Read + Drop, W: Write + Drop>(
         &mut self,
         alloc: Global,

@@ -72,8 +72,9 @@ impl Worker {
         name_command(self.asked(), connection.receive(alloc))
     }
 
-    /// Requests the next command, sends it, and receives its reply, for `answered`. An `Err` is never `Answer`, and
-    /// then nothing is acknowledged that was not committed. If the command may have been sent, the worker begins again.
+    /// Requests the next command, sends it, and receives its reply, which `answered` takes. An `Err` is never
+    /// `Answer`, and does not lead to the acknowledgement of an entry that was not committed. If the command
+    /// may have been sent, the worker begins again.
     pub fn ask<H: Handler, R: Read + Drop, W: Write + Drop>(
         &mut self,
         alloc: Global,
@@ -95,7 +96,7 @@ impl Worker {
         }
     }
 
-    /// Reads its own pending entries again, if a command may have been sent.
+    /// Begins again with the worker's own pending entries, if a command may have been sent. Returns the error.
     pub(crate) fn begin_again_after(&mut self, error: RunError) -> RunError
         ensures same { result ≡ error }
         ensures machine { machine_of self.new ≡ machine_after error (machine_of self.old) }
@@ -168,9 +169,10 @@ impl Worker {
         Ok(Round { asked, progress })
     }
 
-    /// Makes one round of `run`: it sends a command, takes the reply without a copy, and drops its bytes from the
-    /// buffer. If memory runs out before the reply is read, the error is `Receive`, and the reply stays in the buffer.
-    /// After an `Err` the worker reads its own pending entries again, unless it is `Request`: then nothing was sent.
+    /// Makes one round of `run`: sends a command, takes the reply without a copy, and drops the bytes of the
+    /// reply from the buffer. If memory runs out before the reply is read, the error is `Receive`, and the
+    /// reply stays in the buffer. After an `Err` the worker reads its own pending entries again. It does not
+    /// after `Request`, since nothing was sent.
     pub fn round<H: Handler, R: Read + Drop, W: Write + Drop>(
         &mut self,
         alloc: Global,
@@ -221,11 +223,11 @@ impl Worker {
         Ok(Progress::GoesOn)
     }
 
-    /// Acknowledges what is done, and reads nothing: it makes rounds until everything done is committed and
-    /// acknowledged. There are two of them at most. The handler commits before the second, and before the first if
-    /// there is nothing else to acknowledge.
+    /// Acknowledges what is done, and reads nothing. Makes at most two rounds, until everything done is
+    /// committed and acknowledged. The handler commits before the second round. It commits before the first
+    /// round if there is nothing else to acknowledge.
     ///
-    /// Call it before a worker ends, as after its handler returned `Stop`. Errors are as for `run`.
+    /// Call this before a worker ends, for example after its handler returned `Stop`. Errors are as for `run`.
     pub fn finish<H: Handler, R: Read + Drop, W: Write + Drop>(
         &mut self,
         alloc: Global,

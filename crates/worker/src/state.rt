@@ -13,7 +13,7 @@ pub enum MakeGroup {
     Never,
     /// From the first entry of the stream, `XGROUP CREATE key group 0 MKSTREAM`.
     FromTheFirst,
-    /// From entries added after it is created, `XGROUP CREATE key group $ MKSTREAM`.
+    /// From entries added after the group is created, `XGROUP CREATE key group $ MKSTREAM`.
     FromNow,
 }
 
@@ -52,23 +52,23 @@ pub struct Settings {
     pub(crate) count: usize,
     /// Whether entries that were delivered before are requested one at a time.
     pub(crate) one_at_a_time: bool,
-    /// How many milliseconds the server waits for new entries, `BLOCK`; 0 for no limit.
+    /// How many milliseconds the server waits for new entries, `BLOCK`. 0 is no limit.
     pub(crate) block: usize,
     /// Entries that are pending for other consumers and idle for this many milliseconds are claimed, `min-idle-time`.
     pub(crate) min_idle: usize,
-    /// How many reads of new entries are made between claims; it claims after each one for 0 and 1.
+    /// How many reads of new entries are made between claims. For 0 and 1 the worker claims after each read.
     pub(crate) every: usize,
-    /// Whether it creates the group if the first command returns `NOGROUP`.
+    /// Whether the worker creates the group if the first command returns `NOGROUP`.
     pub(crate) make_group: MakeGroup,
 }
 
 impl Settings {
-    /// Settings for the stream `key`, a group and a consumer. The consumer's name must be unique, and the same after a
-    /// restart.
+    /// Returns settings for the stream `key`, a group and a consumer. The consumer's name must be unique, and
+    /// the same after a restart.
     ///
-    /// The default count is 1,000, also for entries that were delivered before, and `BLOCK` is five seconds. It claims
-    /// entries that are idle for a minute, after every tenth read. No group is created. Returns the error of the first
-    /// name that is empty.
+    /// The default count is 1,000, also for entries that were delivered before, and `BLOCK` is five seconds.
+    /// The worker claims entries that are idle for a minute, after every tenth read. No group is created.
+    /// Returns the error of the first empty name.
     pub fn new(key: String, group: String, consumer: String) -> Result<Settings, SettingsError>
         ensures { result ≡ checked key group consumer }
     {
@@ -112,18 +112,19 @@ impl Settings {
         Ok(())
     }
 
-    /// Sets whether entries that were delivered before are requested one at a time, `COUNT 1`: its own pending entries,
-    /// and those that it claims. New entries are still requested by `count`.
+    /// Sets whether entries that were delivered before are requested one at a time, `COUNT 1`. These are the
+    /// worker's own pending entries, and the entries that it claims. New entries are still requested by
+    /// `count`.
     ///
-    /// Then an entry that ends the process raises only its own delivery count. It costs a round and a commit for each
-    /// entry that is delivered again.
+    /// With this setting an entry that ends the process raises only its own delivery count. Each redelivered
+    /// entry then costs a round and a commit.
     pub fn set_one_at_a_time(&mut self, one_at_a_time: bool)
         ensures { self.new ≡ record self.old { one_at_a_time = one_at_a_time } }
     {
         self.one_at_a_time = one_at_a_time;
     }
 
-    /// How many milliseconds the server waits for new entries, `BLOCK`; 0 for no limit.
+    /// How many milliseconds the server waits for new entries, `BLOCK`. 0 is no limit.
     pub fn set_block(&mut self, block: usize)
         ensures { self.new ≡ record self.old { block = block } }
     {
@@ -137,14 +138,14 @@ impl Settings {
         self.min_idle = min_idle;
     }
 
-    /// How many reads of new entries are made between claims; it claims after each one for 0 and 1.
+    /// How many reads of new entries are made between claims. For 0 and 1 the worker claims after each read.
     pub fn set_every(&mut self, every: usize)
         ensures { self.new ≡ record self.old { every = every } }
     {
         self.every = every;
     }
 
-    /// Whether it creates the group if the first command returns `NOGROUP`.
+    /// Whether the worker creates the group if the first command returns `NOGROUP`.
     pub fn set_make_group(&mut self, make_group: MakeGroup)
         ensures { self.new ≡ record self.old { make_group = make_group } }
     {
@@ -186,7 +187,7 @@ impl Settings {
         self.min_idle
     }
 
-    /// How many reads of new entries are made between claims.
+    /// How many reads of new entries are made between claims. For 0 and 1 the worker claims after each read.
     pub fn every(&self) -> usize
         ensures { result ≡ self.now.every }
     {
@@ -197,15 +198,15 @@ impl Settings {
 /// The phase of a worker.
 #[derive(Debug, Drop)]
 pub enum Phase {
-    /// It reads its own pending entries from the first on.
+    /// The worker reads its own pending entries from the first on.
     Start,
-    /// It reads its own pending entries after this id.
+    /// The worker reads its own pending entries after this id.
     Own(String),
-    /// It claims idle entries, from the first on.
+    /// The worker claims idle entries, from the first on.
     ClaimFirst,
-    /// It claims idle entries, from this id on.
+    /// The worker claims idle entries, from this id on.
     Claiming(String),
-    /// It reads new entries, and has made this many reads since the last claim.
+    /// The worker reads new entries, and has made this many reads since the last claim.
     Reading(usize),
 }
 
@@ -229,9 +230,9 @@ pub enum Asked {
     Acknowledgement,
     /// XGROUP CREATE.
     Group,
-    /// XREADGROUP of its own pending entries, before it knows of its group.
+    /// XREADGROUP of the worker's own pending entries, before anything is known of the group.
     First,
-    /// XREADGROUP of its own pending entries.
+    /// XREADGROUP of the worker's own pending entries.
     Own,
     /// XAUTOCLAIM.
     Claim,

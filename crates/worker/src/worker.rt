@@ -35,17 +35,17 @@ use stream_in_place::{EntryTape, SentRow};
 /// Whether a worker's handler goes on.
 #[derive(Clone, Copy, Debug, PartialEq, Eq)]
 pub enum Progress {
-    /// It goes on.
+    /// The handler goes on.
     GoesOn,
     /// The handler returned `Stop`. Entries that are not done are pending, and are read next.
     Stopped,
 }
 
-/// A worker of a consumer group, without input and output. `request` writes the next command. `answered_in_place` takes
-/// its reply from the bytes received, or `answered` takes it decoded.
+/// A worker of a consumer group, without input and output. `request` writes the next command.
+/// `answered_in_place` takes the reply from the received bytes, and `answered` takes a decoded reply.
 ///
-/// It acknowledges just the entries that its handler has done and committed, and its own pending entries that were
-/// deleted from the stream. The server returns those with nil in place of fields.
+/// The worker acknowledges only entries that its handler has done and committed, and its own pending entries
+/// that were deleted from the stream. The server returns deleted entries with nil in place of fields.
 #[derive(Debug, Drop)]
 pub struct Worker {
     settings: Settings,
@@ -58,7 +58,7 @@ pub struct Worker {
 }
 
 impl Worker {
-    /// A worker that begins with its own pending entries. Allocates nothing.
+    /// Returns a worker that begins with its own pending entries. Allocates nothing.
     pub fn new(alloc: Global, settings: Settings) -> Worker
         ensures machine { machine_of result ≡ start settings.every }
         ensures settings { result.settings ≡ settings }
@@ -68,8 +68,9 @@ impl Worker {
         Worker::resumed(alloc, settings, Vec::new(alloc))
     }
 
-    /// A worker that first acknowledges these entries, which were committed before it was started, as the last lines of
-    /// its file show. Then it begins with its own pending entries. Allocates nothing.
+    /// Returns a worker that first acknowledges these ids. Their entries were committed before the start, for
+    /// example as the last lines of a file. Then the worker begins with its own pending entries. Allocates
+    /// nothing.
     pub fn resumed(alloc: Global, settings: Settings, committed: Vec<String>) -> Worker
         ensures machine { machine_of result ≡ record (start settings.every) {
           to_acknowledge = ids_of committed;
@@ -89,7 +90,7 @@ impl Worker {
         }
     }
 
-    /// The command whose reply it waits for.
+    /// Returns the command whose reply the worker waits for.
     pub fn asked(&self) -> Asked
         ensures { result ≡ self.now.asked }
     {
@@ -143,8 +144,8 @@ impl Worker {
         Ok(())
     }
 
-    /// Appends the command that follows the requested acknowledgement, and returns which it is. Returns `None` and
-    /// appends nothing if something must be committed before it, or if memory runs out.
+    /// Appends the command that follows the requested acknowledgement, and returns which command it is. Returns
+    /// `None` and appends nothing if something must be committed before this command, or if memory runs out.
     pub(crate) fn append_following(&self, alloc: Global, out: &mut Vec<u8>) -> Option<Asked>
         ensures some { IfSome result (λ next. (self.now.asked ≡ Asked.Acknowledgement)
             × ((machine_of self.now).to_commit ≡ [])
@@ -162,7 +163,7 @@ impl Worker {
         }
     }
 
-    /// Records that it waits for the reply to this command.
+    /// Records that the worker waits for the reply to this command.
     pub(crate) fn wait_for(&mut self, question: Asked)
         ensures machine { machine_of self.new ≡ machine_of self.old }
         ensures group { self.new.group ≡ self.old.group }
@@ -246,8 +247,8 @@ impl Worker {
         }
     }
 
-    /// Begins again with its own pending entries, after it has acknowledged what is committed. Call it after a
-    /// connection broke before a reply came. `run`, `round` and `ask` do so by themselves.
+    /// Begins again with the worker's own pending entries, after an acknowledgement of what is committed. Call
+    /// this after a connection broke before a reply was received. `run`, `round` and `ask` call it themselves.
     pub fn begin_again(&mut self)
         ensures machine { machine_of self.new ≡ begins_again (machine_of self.old) }
         ensures group { self.new.group ≡ self.old.group }
@@ -327,7 +328,7 @@ impl Worker {
         Ok(Progress::GoesOn)
     }
 
-    /// Takes a reply with its own pending entries.
+    /// Takes a reply with the worker's own pending entries.
     fn take_own<H: Handler>(
         &mut self,
         alloc: Global,
@@ -423,7 +424,8 @@ impl Worker {
     }
 }
 
-/// What is known of the group after a value: it exists if entries were read from it, or if it was created.
+/// Returns what is known of the group after a value. The group exists if entries were read from it, or if it
+/// was created.
 fn update_group_after_value(group: GroupState, asked: Asked) -> GroupState
     ensures { result ≡ by_value group asked }
 {
@@ -433,7 +435,8 @@ fn update_group_after_value(group: GroupState, asked: Asked) -> GroupState
     }
 }
 
-/// What an error says of the group: that it is missing, or exists. Only the first command of all may find it missing.
+/// Returns what an error says of the group: that it is missing, or that it exists. Only the first command of
+/// all may find it missing.
 fn update_group_after_error(
     make: MakeGroup,
     asked: Asked,
@@ -460,7 +463,7 @@ fn update_group_after_error(
     }
 }
 
-/// The error for an error reply, by its code.
+/// Returns the error for an error reply, by its code.
 fn convert_server_error(asked: Asked, error: ServerError) -> WorkerError
     requires { asked ≢ Asked.Nothing }
     ensures { IsRefused asked error.text.items result }

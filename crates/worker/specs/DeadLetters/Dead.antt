@@ -130,7 +130,7 @@ BreaksOff words old new = (new ≡ old) ⊎ (Fails old new (command_bytes words)
 abbrev pub AreJust : List Row → Entry → Type 0
 AreJust rows e = rows ≡ Some (e.0, words_of e.1) ∷ []
 
--- the reply is exactly the claimed entry, with fields: its letter is queued after those before it
+-- XCLAIM returned exactly the entry `e`, with fields. The letter of `e` is queued after the earlier letters
 pub record PostedOne (dead : List ℕ) (w : Waiting) (rows : List Row) (e : Entry) (desk desk' : Desk) : Type 0 where
   pub just : AreJust rows e
   pub claimed : e.0 ≡ string_bytes w.id

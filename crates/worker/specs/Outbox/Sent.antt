@@ -53,8 +53,8 @@ pub record IsRepliedTo (commands left : List (List ℕ)) (old new : Link) : Type
   pub not_taken : IsNotTaken last new
   pub left_is : left ≡ drop count commands
 
--- not all commands got a reply. Nothing or a prefix of their bytes was sent, and all commands are left; or all
--- were sent, and the first ones got replies
+-- not all commands got a reply. If only a prefix of their bytes was sent, or nothing, all commands are left. If
+-- all bytes were sent, the first commands may have replies
 abbrev pub SendsSome : List (List ℕ) → List (List ℕ) → Link → Link → Type 0
 SendsSome commands left old new =
     ((left ≡ commands) × ((new ≡ old) ⊎ SendsFront old new (all_bytes commands))) ⊎ IsRepliedTo commands left old new

@@ -11,12 +11,12 @@ use redis_wire::Reply;
 use std::alloc::Global;
 use std::io::{Read, Write};
 
-/// Makes one round, as `Worker::round` does, and sends WAIT before its reply is taken. So the handler receives entries
-/// only after the required number of replicas have their delivery, and acknowledgements are confirmed too.
+/// Makes one round, as `Worker::round` does, and sends WAIT before the reply is taken. So the handler receives
+/// entries only after the required number of replicas have their delivery. Acknowledgements are confirmed too.
 ///
-/// If fewer have it, or WAIT fails, the error is `Unconfirmed`: the reply is discarded, and its entries stay pending.
-/// After an `Err` the worker reads its own pending entries again, unless it is `Run` of `Request`: then nothing was
-/// sent.
+/// If fewer replicas have the command, or WAIT fails, the error is `Unconfirmed`. The reply is discarded, and
+/// its entries stay pending. After an `Err` the worker reads its own pending entries again. It does not after
+/// `Run` of `Request`, since nothing was sent.
 pub fn round_confirmed<H: Handler, R: Read + Drop, W: Write + Drop>(
     alloc: Global,
     connection: &mut Connection<R, W>,

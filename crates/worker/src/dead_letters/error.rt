@@ -33,8 +33,9 @@ impl From<AllocError> for SearchSettingsError {
     }
 }
 
-/// Why a search for dead letters broke off. The entries that it claimed are pending for its consumer, and an entry
-/// without a letter is not acknowledged. After `Ask` and `Connection` a reply may still arrive: close the connection.
+/// Why a search for dead letters broke off. The claimed entries are pending for the consumer of the search. An
+/// entry without a letter is not acknowledged. After `Ask` and `Connection` a reply may still arrive: close the
+/// connection.
 #[derive(Debug, Drop, Error)]
 pub enum SearchError {
     /// XPENDING or XCLAIM returned an error or a reply of another kind, or no reply was received.

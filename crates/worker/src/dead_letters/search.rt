@@ -76,8 +76,8 @@ pub struct DeadLetterSearch {
 }
 
 impl DeadLetterSearch {
-    /// A search for a worker, which is then made from the same settings. It sets `one_at_a_time` in them, so an entry
-    /// that ends the process raises no other entry's delivery count.
+    /// Returns a search for a worker, which is then made from these settings. Sets `one_at_a_time` in them, so
+    /// an entry that ends the process raises no other entry's delivery count.
     pub fn new(
         alloc: Global,
         settings: &mut Settings,
@@ -101,7 +101,7 @@ impl DeadLetterSearch {
         Ok(search)
     }
 
-    /// The search with the names of these settings.
+    /// Returns the search with the names in these settings.
     fn of(alloc: Global, settings: &Settings, to: GiveUp) -> Result<DeadLetterSearch, AllocError>
         ensures names { IfOk result (λ d. (string_bytes d.key ≡ string_bytes settings.now.key)
             × (string_bytes d.group ≡ string_bytes settings.now.group)
@@ -182,9 +182,9 @@ impl DeadLetterSearch {
         Ok(pick_own(alloc, &page, id, reason)?)
     }
 
-    /// Call it before each command of a worker, with its last command. It searches before the first command and before
-    /// each claim. It does not search while the worker has entries to acknowledge, in memory or in its file, since
-    /// these are pending too.
+    /// Call this before each command of a worker, with the worker's last command. It searches before the first
+    /// command and before each claim. It does not search while the worker has entries to acknowledge, in memory
+    /// or in its file, since these entries are pending too.
     pub fn turn<R: Read + Drop, W: Write + Drop>(
         &mut self,
         alloc: Global,

@@ -16,7 +16,8 @@ pub enum OutboxError {
     /// The commands were not sent, or no reply was received.
     #[error("{0}")]
     Connection(ConnectionError),
-    /// The server returned an error to a command. It and those after it stay in the outbox, and are sent again.
+    /// The server returned an error to a command. That command and the later ones stay in the outbox, and are
+    /// sent again.
     #[error("the server replied {0}")]
     Refused(ServerError),
     /// The reply is an aggregate with an error in it.
@@ -46,7 +47,8 @@ impl From<AllocError> for OutboxError {
 /// Why a round with an outbox broke off.
 #[derive(Debug, Drop, Error)]
 pub enum PostError {
-    /// The round failed, and nothing of the outbox was sent. It is `NotCommitted` while a command has no reply.
+    /// The round failed, and nothing of the outbox was sent. The error is `NotCommitted` while a command has no
+    /// reply.
     #[error("{0}")]
     Round(RunError),
     /// The round was made, and not every command of the outbox was sent and got its reply.

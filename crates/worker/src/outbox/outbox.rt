@@ -29,7 +29,7 @@ struct Replies {
 }
 
 impl Outbox {
-    /// An empty outbox. Allocates nothing.
+    /// Returns an empty outbox. Allocates nothing.
     pub fn new(alloc: Global) -> Outbox
         ensures { unsent_of result ≡ [] }
     {
@@ -45,7 +45,7 @@ impl Outbox {
         self.commands.is_empty()
     }
 
-    /// How many commands have no reply.
+    /// Returns the number of commands without a reply.
     pub fn len(&self) -> usize
         ensures { result ≡ length (unsent_of self.now) }
     {
@@ -72,10 +72,12 @@ impl Outbox {
         self.commands.truncate(len);
     }
 
-    /// Sends all commands in one write, and takes one reply to each. After Ok it is empty. After an `Err` those without
-    /// a reply stay, and the next call sends them again: each is sent at least once, and maybe twice.
+    /// Sends all commands in one write, and takes one reply to each. After `Ok` the outbox is empty. After an
+    /// `Err` the commands without a reply stay, and the next call sends them again. So each command is sent at
+    /// least once, and may be sent twice.
     ///
-    /// An error reply ends it, and that command and those after it stay. The server may have executed the later ones.
+    /// The call ends at an error reply. The command of that reply and those after it stay. The server may have
+    /// executed the later ones.
     pub fn send<R: Read + Drop, W: Write + Drop>(
         &mut self,
         alloc: Global,
@@ -104,7 +106,7 @@ impl Outbox {
     }
 }
 
-/// The bytes of these commands, one after the other.
+/// Returns the bytes of these commands in order.
 fn join_commands(alloc: Global, commands: &[Vec<u8>]) -> Result<Vec<u8>, AllocError>
     ensures { IfOk result (λ bytes. bytes.items ≡ all_bytes (map (λ c. c.items) commands.now)) }
 {

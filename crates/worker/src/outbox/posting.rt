@@ -40,14 +40,14 @@ pub trait Work {
         ensures posts { unsent_of outbox.new ≡ unsent_of outbox.old
             ++ posts (history self.old) (pair_of entry.now) (verdict_of result) };
 
-    /// Makes all its work durable. It is called after every command got its reply.
+    /// Makes all its work durable. This is called after every command got its reply.
     fn commit(&mut self, alloc: Global) -> Result<(), NotCommitted>
         ensures ok { OnOk result (history self.new ≡ with_commit (history self.old)) }
         ensures err { OnErr result (history self.new ≡ history self.old) }
         ensures failed { IsErr result → commit_failed self.old self.new };
 }
 
-/// Work with its outbox, as a worker's handler. It commits nothing while a command is in the outbox.
+/// The handler of a worker: work with its outbox. The handler commits nothing while a command is in the outbox.
 #[derive(Drop)]
 pub struct Posting<W: Work + Drop> {
     /// The work.

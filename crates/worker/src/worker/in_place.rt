@@ -23,9 +23,10 @@ use std::mem;
 use stream_in_place::{AutoClaimRef, EntriesRef, EntryTape, StreamsRef};
 
 impl Worker {
-    /// Takes the reply to the command that was requested last, from the start of the bytes. Its entries are passed to
-    /// the handler as borrowed entries. Of a reply as servers write it, only ids are copied: those to acknowledge, and
-    /// the one to go on from. Another reply is decoded, and taken as by `answered`. An error names the command.
+    /// Takes the reply to the last requested command, from the start of the bytes. The entries are passed to
+    /// the handler as borrowed entries. If the reply has the form that servers write, only ids are copied:
+    /// those to acknowledge, and the one to go on from. Any other reply is decoded, and taken as by `answered`.
+    /// An error names the command.
     pub fn answered_in_place<H: Handler>(
         &mut self,
         alloc: Global,
@@ -92,7 +93,7 @@ impl Worker {
         }
     }
 
-    /// Takes a reply with its own pending entries.
+    /// Takes a reply with the worker's own pending entries.
     fn take_own_in_place<H: Handler>(
         &mut self,
         alloc: Global,
@@ -167,7 +168,7 @@ impl Worker {
         }
     }
 
-    /// Takes its own pending entries, borrowed.
+    /// Takes borrowed own pending entries of the worker.
     fn take_found_own<H: Handler>(
         &mut self,
         alloc: Global,
@@ -191,7 +192,7 @@ impl Worker {
         Ok(self.take_in_place(alloc, entries, next, handler)?)
     }
 
-    /// Takes claimed entries, borrowed.
+    /// Takes borrowed claimed entries.
     fn take_found_claimed<H: Handler>(
         &mut self,
         alloc: Global,
@@ -221,7 +222,7 @@ impl Worker {
         }
     }
 
-    /// Takes new entries, borrowed.
+    /// Takes borrowed new entries.
     fn take_found_new<H: Handler>(
         &mut self,
         alloc: Global,
@@ -278,7 +279,7 @@ impl Worker {
     }
 }
 
-/// The result of a reply to this command; an error names the command.
+/// Returns the result of a reply to this command. An error names the command.
 fn name_answer_error(
     asked: Asked,
     outcome: Result<Progress, WorkerError>,
