@@ -1,4 +1,4 @@
--- What the callers' contracts speak of.
+-- The definitions for the contracts of the callers.
 pub mod Worker
 pub mod Order
 pub mod Producer

@@ -1,4 +1,4 @@
--- What one automatic claim took over, and where the next one starts.
+-- The entries that one XAUTOCLAIM claimed, and the start of the next one.
 use Rattle.std.specs.Prelude.{ℕ, List, Option, Some, None, codes, if◌then◌else◌}
 use Rattle.std.specs.Str.{bytes_eq}
 use Rattle.redis.specs.Words.{AutoClaim}
@@ -8,10 +8,10 @@ use Rattle.examples.specs.Worker.{ids_of}
 abbrev pub Claimed : Type 0
 Claimed = List (List ℕ) × Option (List ℕ)
 
--- the next claim starts at that id, and `0-0` says that there is none
+-- the start of the next claim. `None` if the server returned `0-0`
 abbrev pub goes_on : List ℕ → Option (List ℕ)
 goes_on next = if bytes_eq next (codes "0-0") then None else Some next
 
--- what a reply says of both
+-- the ids in the reply, and the start of the next claim
 abbrev pub claimed_of : AutoClaim → Claimed
 claimed_of c = (ids_of c.claimed, goes_on c.next)

@@ -1,4 +1,4 @@
-//! The orders of a batch of entries, and the entries that say none.
+//! The orders of a batch of entries, and the entries that are not orders.
 ghost use Rattle.std.specs.Prelude.{◌≡◌, ◌<◌, map, flat_map, length, IfOk, OnErr, string_bytes};
 ghost use Rattle.redis.specs.Words.{entry_meaning};
 ghost use Rattle.examples.specs.Order.{order_meaning, order_in, strange_in};
@@ -7,17 +7,17 @@ use crate::order::Order;
 use redis::streams::StreamId;
 use std::alloc::{AllocError, Global};
 
-/// What a batch of entries says.
+/// The orders of a batch, and the ids of its other entries.
 #[derive(Debug, Drop)]
 pub struct Batch {
-    /// The orders, in order.
+    /// The orders, in the order of their entries.
     pub orders: Vec<Order>,
-    /// The ids of the entries that say no order, in order.
+    /// The ids of the entries that are not orders, in order.
     pub strange: Vec<String>,
 }
 
-/// Each entry is an order, or its id is among the strange ones; both in order. It fails only if
-/// memory runs out; no entry, no memory.
+/// Splits the entries into orders and the ids of the other entries, both in order. Fails only if memory runs
+/// out. Allocates nothing if there are no entries.
 pub fn sort_out(alloc: Global, entries: &[StreamId]) -> Result<Batch, AllocError>
     ensures orders { IfOk result (λ b. map order_meaning b.orders.items
         ≡ flat_map order_in (map entry_meaning entries.now)) }

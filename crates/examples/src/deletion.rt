@@ -1,4 +1,4 @@
-//! What became of entries that XDELEX and XACKDEL were to delete, in the names of `redis`.
+//! The results of XDELEX and XACKDEL for each entry, with types of `redis`.
 ghost use Rattle.std.specs.Prelude.{◌≡◌, ◌≢◌, ◌↔◌, Some, IfOk, IfErr, IsTrue};
 ghost use Rattle.redis.specs.Words.{tree, xackdel_reading, xackdel_refusal, xdelex_reading};
 ghost use Rattle.redis.specs.Words.{xdelex_refusal};
@@ -9,7 +9,7 @@ use redis::streams::{XAckDelStatusCode, XDelExStatusCode};
 use redis::{ParsingError, Value, from_redis_value};
 use std::alloc::Global;
 
-/// What one code of a reply to XDELEX says. It takes no memory.
+/// Returns the meaning of one code in a reply to XDELEX. Allocates nothing.
 pub fn deletion_of(alloc: Global, code: Value) -> Result<XDelExStatusCode, ParsingError>
     ensures ok { IfOk result (λ status. xdelex_reading (tree code) ≡ Some status) }
     ensures err { IfErr result (λ e. e ≡ xdelex_refusal (tree code)) }
@@ -17,7 +17,7 @@ pub fn deletion_of(alloc: Global, code: Value) -> Result<XDelExStatusCode, Parsi
     from_redis_value(alloc, code)
 }
 
-/// What one code of a reply to XACKDEL says. It takes no memory.
+/// Returns the meaning of one code in a reply to XACKDEL. Allocates nothing.
 pub fn acknowledgement_of(alloc: Global, code: Value) -> Result<XAckDelStatusCode, ParsingError>
     ensures ok { IfOk result (λ status. xackdel_reading (tree code) ≡ Some status) }
     ensures err { IfErr result (λ e. e ≡ xackdel_refusal (tree code)) }
@@ -37,7 +37,7 @@ pub fn is_left(status: &XDelExStatusCode) -> bool
     }
 }
 
-/// Whether the entry was pending for the group, so that XACKDEL acknowledged it.
+/// Whether the entry was pending for the group, and XACKDEL acknowledged it.
 pub fn was_pending(status: &XAckDelStatusCode) -> bool
     ensures { IsTrue result ↔ (status.now ≢ acknowledgement.IdNotFound) }
 {

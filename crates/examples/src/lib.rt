@@ -1,11 +1,11 @@
-//! Callers of the stream layer to copy from, each proved from the public contracts and run on stored
-//! cases by the program `test_cases::callers`.
+//! Callers of the stream layer to copy from. Each is proved from the public contracts. The program
+//! `test_cases::callers` runs each on stored cases.
 //!
-//! `caller` is a first file of a repository of one's own. `worker` and `batch` are the pure part of a consumer-group worker, `stalled` takes over what
-//! others left, `deletion` reads what XDELEX and XACKDEL say, `monitoring` reads XPENDING and XINFO,
-//! `producer` sends entries so that one that is sent twice is added once, `server` reads back what a
-//! client wrote, `wire` goes from a server's bytes to a record, `order` has types of a user's own, and
-//! `readme` the code of the README.
+//! `caller` is a first file of a repository of its own. `worker` and `batch` are the pure part of a
+//! consumer-group worker. `stalled` claims entries of other consumers. `deletion` reads the replies to XDELEX
+//! and XACKDEL, and `monitoring` those to XPENDING and XINFO. `producer` adds an entry once, even if it sends
+//! the entry twice. `server` reads the arguments that a client sent. `wire` decodes a server's bytes to a
+//! record. `order` has types of a user, and `readme` has the code of the README.
 #![tactic(auto)]
 
 pub mod batch;

@@ -1,4 +1,4 @@
-//! What XPENDING and XINFO GROUPS say of a group.
+//! Reads the replies to XPENDING and XINFO GROUPS.
 ghost use Rattle.std.specs.Prelude.{◌≡◌, map, filter, nat_le, string_bytes, IfOk};
 ghost use Rattle.redis.specs.Words.{groups_meaning, pending_ids_meaning};
 ghost use Rattle.examples.specs.Monitoring.{lag_in};
@@ -6,7 +6,7 @@ ghost use Rattle.examples.specs.Monitoring.{lag_in};
 use redis::streams::{StreamInfoGroupsReply, StreamPendingCountReply};
 use std::alloc::{AllocError, Global};
 
-/// The ids of the pending entries that were delivered `limit` times or more, in order.
+/// Returns the ids of the pending entries that were delivered `limit` times or more, in order.
 pub fn delivered_too_often(
     alloc: Global,
     reply: &StreamPendingCountReply,
@@ -24,8 +24,8 @@ pub fn delivered_too_often(
     Ok(ids)
 }
 
-/// How many entries the first group of this name has still to read, of the reply to XINFO GROUPS;
-/// None if there is no such group, or the server cannot tell. It takes no memory.
+/// Returns how many entries the first group with this name has not read yet, by the reply to XINFO GROUPS.
+/// Returns `None` if there is no such group, or if the server does not know the number. Allocates nothing.
 pub fn lag_of(reply: &StreamInfoGroupsReply, name: &str) -> Option<usize>
     ensures { result ≡ lag_in name.now (groups_meaning reply.now) }
 {

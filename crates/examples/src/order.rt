@@ -1,5 +1,5 @@
-//! Types of a user's own: `OrderId` is one argument and is read from a number, `Order` is the fields
-//! of an entry, as arguments and as a record.
+//! Types of a user. `OrderId` is one argument and is read from a number. `Order` is the fields of an entry, as
+//! arguments and as a record.
 ghost use Rattle.std.specs.Prelude.{◌≡◌, ℕ, [], ◌∷◌, codes, decimal, refl};
 ghost use Rattle.std.specs.Prelude.{option_map, string_bytes, IfOk, OnErr};
 ghost use Rattle.redis.specs.Words.{RefusesNumber, fields_of, unsigned_reading};
@@ -47,14 +47,14 @@ impl FromRedisValue for OrderId {
     }
 }
 
-/// An order, as the fields of an entry say it.
+/// An order, which the fields of an entry have.
 #[derive(Debug, Drop)]
 pub struct Order {
     /// The field `order`.
     pub id: OrderId,
     /// The field `customer`.
     pub customer: String,
-    /// The field `quantity`: how many pieces.
+    /// The field `quantity`: the number of pieces.
     pub quantity: u32,
 }
 
@@ -69,8 +69,8 @@ impl ToRedisArgs for Order {
 }
 
 impl Order {
-    /// The order that fields say, if they say one. It fails only if memory runs out, and asks
-    /// for none but to copy the customer of an order.
+    /// Returns the order of these fields, if they are an order. Fails only if memory runs out. Allocates only
+    /// the copy of the customer.
     pub fn of_fields(
         alloc: Global,
         fields: &HashMap<String, Value>,

@@ -1,7 +1,7 @@
-//! A producer whose entries are distinct: one that is sent twice is added once.
+//! A producer whose entries are distinct. An entry that is sent twice is added once.
 //!
-//! The producer gives each entry a number, and keeps the number until the entry has a reply. What
-//! it sends after an error is what it sent before, so the server can tell that it is the same.
+//! The producer gives each entry a number, and keeps the number until the entry has a reply. After an error it
+//! sends the same command again, so the server knows that the entry is the same.
 ghost use Rattle.std.specs.Prelude.{◌≡◌, ◌≢◌, [], ◌∷◌, ◌++◌, Some, None, codes, decimal, map};
 ghost use Rattle.std.specs.Prelude.{flat_map, string_bytes, suc, IfOk, IfErr, OnOk, OnErr};
 ghost use Rattle.redis.specs.Words.{text_reading, tree};
@@ -16,19 +16,19 @@ use thiserror::Error;
 /// A producer of entries.
 #[derive(Debug, Drop)]
 pub struct Producer {
-    /// The id that no other producer of the stream has.
+    /// The id of the producer, which no other producer of the stream has.
     pub id: String,
-    /// The number of the entry that is to be sent, or was sent and has no reply.
+    /// The number of the next entry, which may have been sent already but has no reply.
     pub number: u64,
 }
 
 /// Why a producer stays at its entry.
 #[derive(Debug, Drop, Error)]
 pub enum ProducerError {
-    /// The reply is no id.
+    /// The reply is not an id.
     #[error("the answer of XADD is {0}")]
     Answer(ParsingError),
-    /// There is no further number.
+    /// The number of the entry is the largest one.
     #[error("no number is left for a further entry")]
     LastNumber,
 }
@@ -42,8 +42,8 @@ impl From<ParsingError> for ProducerError {
 }
 
 impl Producer {
-    /// `XADD key IDMP producer number MAXLEN ~ n * field value ..`, the same each time until the
-    /// entry has a reply. A value need be no text; it is borrowed, and one argument.
+    /// Returns `XADD key IDMP producer number MAXLEN ~ n * field value ..`. The command is the same until the
+    /// entry has a reply. A value is one argument of any bytes, and is borrowed.
     pub fn arguments(
         &self,
         alloc: Global,
@@ -63,8 +63,8 @@ impl Producer {
         (("XADD", key), &options, "*", fields).to_redis_args(alloc)
     }
 
-    /// The id that the server returned, and on to the next entry. After any Err, as after an error
-    /// of the connection, the same entry may be sent again.
+    /// Returns the id of the added entry, and goes on to the next entry. After an `Err`, or after an error of
+    /// the connection, the same entry may be sent again.
     pub fn answered(&mut self, alloc: Global, answer: Value) -> Result<String, ProducerError>
         ensures id { IfOk result (λ id. text_reading (tree answer) ≡ Some (string_bytes id)) }
         ensures next { OnOk result (self.new.number ≡ suc self.old.number) }

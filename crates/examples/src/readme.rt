@@ -9,7 +9,7 @@ use redis::streams::{StreamRangeReply, StreamReadOptions};
 use redis::{ParsingError, ToRedisArgs, Value, from_redis_value};
 use std::alloc::{AllocError, Global};
 
-/// `XREADGROUP GROUP workers ann COUNT 10 STREAMS orders >`, whatever the order of the setters.
+/// Returns `XREADGROUP GROUP workers ann COUNT 10 STREAMS orders >`. The order of the setters does not matter.
 pub fn read_arguments(alloc: Global) -> Result<Vec<Vec<u8>>, AllocError>
     ensures { IfOk result (λ list. map (λ arg. arg.items) list.items ≡
         codes "XREADGROUP" ∷ codes "GROUP" ∷ codes "workers" ∷ codes "ann"
@@ -21,7 +21,7 @@ pub fn read_arguments(alloc: Global) -> Result<Vec<Vec<u8>>, AllocError>
     xread_options(AtLeastOne::one(&("orders", ">")), &options).to_redis_args(alloc)
 }
 
-/// The customer that the first entry of a reply to XRANGE names.
+/// Returns the customer of the first entry in a reply to XRANGE.
 pub fn first_customer(alloc: Global, answer: Value) -> Result<Option<String>, ParsingError>
     ensures customer { IfOk result (λ customer. option_map (first_text (codes "customer"))
         (rows_reading (tree answer)) ≡ Some (option_map string_bytes customer)) }

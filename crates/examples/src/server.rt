@@ -1,4 +1,4 @@
-//! A server's side, or a proxy's: the arguments of XADD, with the options that a client wrote.
+//! The side of a server or a proxy: the arguments of XADD, with the options that a client sent.
 ghost use Rattle.std.specs.Prelude.{◌≡◌, ℕ, List, IfOk, IfErr};
 ghost use Rattle.redis.specs.Words.{AddSettings as Add, arguments};
 ghost use Rattle.examples.specs.Server.{Asks};
@@ -7,7 +7,7 @@ use redis::sentences::{SentenceError, read_add};
 use redis::streams::StreamAddOptions;
 use std::alloc::Global;
 
-/// What XADD asks for, after its key.
+/// The arguments of XADD after its key.
 #[derive(Debug, Drop)]
 pub struct AddRequest<'a> {
     /// The options.
@@ -18,8 +18,8 @@ pub struct AddRequest<'a> {
     pub fields: &'a [Vec<u8>],
 }
 
-/// Reads what is after the key of XADD: the options that a client wrote, an id and fields.
-/// There is never a second reading. `NotASentence` if there is none.
+/// Reads the arguments of XADD after its key: options, an id and fields. Arguments have at most one reading.
+/// Returns `NotASentence` if there is none.
 pub fn add_request<'a>(alloc: Global, args: &'a [Vec<u8>]) -> Result<AddRequest<'a>, SentenceError>
     ensures ok { IfOk result (λ r. Asks (arguments args.now)
         r.options r.id.now (arguments r.fields.now)) }

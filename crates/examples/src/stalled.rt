@@ -1,4 +1,4 @@
-//! Entries that other consumers left: automatic claims, from `0-0` on until the reply says `0-0`.
+//! Claims pending entries of other consumers with XAUTOCLAIM, from `0-0` on until the reply has `0-0`.
 ghost use Rattle.std.specs.Prelude.{◌≡◌, ◌≢◌, [], ◌∷◌, Option, Some, None, codes, decimal, map};
 ghost use Rattle.std.specs.Prelude.{option_map, string_bytes, IfOk, IfErr};
 ghost use Rattle.redis.specs.Words.{autoclaim_reading, tree};
@@ -9,7 +9,7 @@ use redis::streams::{StreamAutoClaimOptions, StreamAutoClaimReply};
 use redis::{ParsingError, ToRedisArgs, Value, from_redis_value};
 use std::alloc::{AllocError, Global};
 
-/// `XAUTOCLAIM key group consumer idle start COUNT n`; `idle` in milliseconds.
+/// Returns `XAUTOCLAIM key group consumer idle start COUNT n`. `idle` is in milliseconds.
 pub fn claim_arguments(
     alloc: Global,
     key: &str,
@@ -27,16 +27,16 @@ pub fn claim_arguments(
     ("XAUTOCLAIM", key, group, consumer, idle, (start, &options)).to_redis_args(alloc)
 }
 
-/// What one claim took over.
+/// The entries that one claim returned.
 #[derive(Debug, Drop)]
 pub struct Stalled {
-    /// The ids of the entries that are this consumer's now, in order.
+    /// The ids of the claimed entries, in order.
     pub ids: Vec<String>,
-    /// The `start` of the next claim; None if all pending entries were looked at.
+    /// The `start` of the next claim. `None` if all pending entries were scanned.
     pub next: Option<String>,
 }
 
-/// What the reply to a claim says; refused if it is none.
+/// Decodes the reply to XAUTOCLAIM. Returns an error if the value is not such a reply.
 pub fn stalled_in(alloc: Global, answer: Value) -> Result<Stalled, ParsingError>
     ensures ok { IfOk result (λ s. option_map claimed_of (autoclaim_reading (tree answer))
         ≡ Some (map string_bytes s.ids.items, option_map string_bytes s.next)) }

@@ -1,4 +1,4 @@
-//! From the bytes that a server sends to a record, in RESP2 and in RESP3.
+//! Decodes the bytes that a server sends to a record, in RESP2 and in RESP3.
 ghost use Rattle.std.specs.Prelude.{◌≡◌, ◌≢◌, List, Some, None, IfOk, IfErr};
 ghost use Rattle.redis.specs.Words.{Answer, ReadAlike, Tree, map_of_pairs, pairs, read_reading};
 ghost use Rattle.redis.specs.Words.{rows_of_two, streams_of, value};
@@ -10,30 +10,30 @@ use redis::{ParsingError, laws};
 use std::alloc::Global;
 use thiserror::Error;
 
-/// Why bytes give no streams.
+/// Why the bytes are not decoded to streams.
 #[derive(Debug, Drop, Error)]
 pub enum AnswerError {
     /// The bytes end before the reply does.
     #[error("the reply has not come whole")]
     Incomplete,
-    /// The bytes are no reply.
+    /// The bytes are not a reply.
     #[error("{0}")]
     Fault(Fault),
     /// The server returned an error.
     #[error("an error of the server")]
     Server(ServerError),
-    /// The reply is a message that was pushed, or its only errors are inside attributes.
+    /// The reply is a push message, or its only errors are inside attributes.
     #[error("no answer of a command")]
     NotAnAnswer,
-    /// The reply is none of XREADGROUP.
+    /// The reply is not a reply to XREADGROUP.
     #[error("{0}")]
     Parsing(ParsingError),
-    /// Out of memory, which says nothing of the bytes.
+    /// Out of memory. This says nothing about the bytes.
     #[error("out of memory")]
     Memory,
 }
 
-/// The streams that the reply at the head of these bytes tells of, in RESP2 or in RESP3.
+/// Returns the streams of the reply at the start of these bytes, in RESP2 or in RESP3.
 pub fn streams_answered(alloc: Global, bytes: &[u8]) -> Result<StreamReadReply, AnswerError>
     ensures answer { (a : Answer) → BeginsWith bytes.now a → Answers a result }
     ensures head { Tells bytes.now result }
@@ -53,8 +53,8 @@ pub fn streams_answered(alloc: Global, bytes: &[u8]) -> Result<StreamReadReply, 
     }
 }
 
-/// The streams of two replies that say the same, each in its protocol, are the same streams; and
-/// if the one is no reply of XREADGROUP, neither is the other.
+/// Returns the streams of two replies. If the replies have the same meaning, one in RESP2 and one in RESP3,
+/// their streams are equal. If one of them is not a reply to XREADGROUP, neither is the other.
 pub fn streams_of_both(
     alloc: Global,
     resp2: &[u8],
@@ -66,7 +66,8 @@ pub fn streams_of_both(
         read_reading w ≡ Some (streams_of r.1.keys)) }
     ensures same { (v w : Tree) → BeginsWith resp2.now (value v) → BeginsWith resp3.now (value w)
         → ReadAlike v w → IfOk result (λ r. streams_of r.0.keys ≡ streams_of r.1.keys) }
-    // An array of a name and its entries for each stream, and a map from the names to the entries.
+    // RESP2 has an array of a name and its entries for each stream. RESP3 has a map from the names to the
+    // entries.
     ensures protocols { (streams : List (Tree × Tree))
         → BeginsWith resp2.now (value (rows_of_two streams))
         → BeginsWith resp3.now (value (map_of_pairs (pairs streams)))

@@ -1,4 +1,5 @@
-//! A consumer-group worker's pure part: what it sends and acknowledges, in the names of `redis`.
+//! The pure part of a consumer-group worker: the commands that it sends and the ids that it acknowledges, with
+//! types of `redis`.
 ghost use Rattle.std.specs.Prelude.{◌≡◌, ◌≢◌, ◌⊎◌, [], ◌∷◌, ◌++◌, Some, None, codes, decimal, map};
 ghost use Rattle.std.specs.Prelude.{option_map, string_bytes, IfOk, IfErr, OnOk};
 ghost use Rattle.redis.specs.Words.{entries_of, entry_meaning, read_reading, streams_of, tree};
@@ -8,7 +9,8 @@ use redis::streams::{StreamId, StreamKey, StreamReadOptions, StreamReadReply};
 use redis::{ParsingError, ToRedisArgs, Value, from_redis_value};
 use std::alloc::{AllocError, Global};
 
-/// `XREADGROUP GROUP g c BLOCK ms COUNT n STREAMS key >`: entries that no consumer has had.
+/// Returns `XREADGROUP GROUP g c BLOCK ms COUNT n STREAMS key >`, which requests entries that no consumer has
+/// received.
 pub fn read_arguments(
     alloc: Global,
     group: &str,
@@ -40,7 +42,7 @@ fn push_ids(ids: &mut Vec<String>, entries: &[StreamId]) -> Result<(), AllocErro
     Ok(())
 }
 
-/// The ids of entries, in order.
+/// Returns the ids of entries, in order.
 pub fn ids_of_entries(alloc: Global, entries: &[StreamId]) -> Result<Vec<String>, AllocError>
     ensures { IfOk result (λ ids. map string_bytes ids.items
         ≡ ids_of (map entry_meaning entries.now)) }
@@ -50,7 +52,7 @@ pub fn ids_of_entries(alloc: Global, entries: &[StreamId]) -> Result<Vec<String>
     Ok(ids)
 }
 
-/// The ids of all entries of a reply, in order.
+/// Returns the ids of all entries of a reply, in order.
 pub fn ids_to_acknowledge(alloc: Global, reply: &StreamReadReply) -> Result<Vec<String>, AllocError>
     ensures { IfOk result (λ ids. map string_bytes ids.items ≡ ids_in (streams_of reply.now.keys)) }
 {
@@ -61,8 +63,8 @@ pub fn ids_to_acknowledge(alloc: Global, reply: &StreamReadReply) -> Result<Vec<
     Ok(ids)
 }
 
-/// The ids that a reply to XREADGROUP asks to acknowledge: exactly those of the entries of the
-/// record that the reply is, in order; `UnknownReadFormat` if it is none.
+/// Returns the ids of all entries in a reply to XREADGROUP, in order, to acknowledge them. Returns
+/// `UnknownReadFormat` if the value is not such a reply.
 pub fn ids_answered(alloc: Global, answer: Value) -> Result<Vec<String>, ParsingError>
     ensures ok { IfOk result (λ ids. option_map ids_in (read_reading (tree answer))
         ≡ Some (map string_bytes ids.items)) }
@@ -75,7 +77,7 @@ pub fn ids_answered(alloc: Global, answer: Value) -> Result<Vec<String>, Parsing
     Ok(ids_to_acknowledge(alloc, &reply)?)
 }
 
-/// `XACK key group id..`: the ids of the stream's entries, in order.
+/// Returns `XACK key group id..` with the ids of the stream's entries, in order.
 pub fn acknowledge_arguments(
     alloc: Global,
     group: &str,

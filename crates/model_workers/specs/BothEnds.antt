@@ -1,4 +1,4 @@
--- A producer and a worker over one server: what goes in comes out, once.
+-- A producer and a worker over one server: each record gets into the worker's file once.
 use Rattle.std.specs.Prelude.{◌≡◌, ◌<◌, ℕ, List, [], ◌++◌, Option, Some}
 use Rattle.redis_connection.specs.Link.{Link}
 use Rattle.model_server.specs.Group.Group.{ids_of}

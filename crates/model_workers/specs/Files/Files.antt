@@ -1,4 +1,5 @@
--- A stream with its group, the file of each worker, and the dead letters of given-up entries; and the possible events.
+-- A stream with its group, the file of each worker, the dead letters of given-up entries, and the possible
+-- events.
 use Rattle.std.specs.Prelude.{◌≡◌, ℕ, List, [], ◌∷◌, ◌++◌, ◌==◌, ◌&&◌, ◌||◌, Bool, true, false, not, filter, flat_map}
 use Rattle.std.specs.Prelude.{if◌then◌else◌}
 use Rattle.worker_journal.specs.EntryLine.{Entry}

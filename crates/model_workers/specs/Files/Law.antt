@@ -38,7 +38,7 @@ HasLetter f e = Among e f.letters
 abbrev pub IsDeleted : Files → Id → Type 0
 IsDeleted f id = Among id f.stream.deleted
 
--- the entry is undelivered, pending, or deleted; or it is in a file, or has a dead letter
+-- the entry is undelivered, pending, in a file, or deleted, or it has a dead letter
 abbrev pub IsKept : Form → Files → Entry → Type 0
 IsKept form f e = Among e f.stream.fresh
     ⊎ (IsPending f.stream e.0 ⊎ (IsInAFile form f e ⊎ (HasLetter f e ⊎ IsDeleted f e.0)))

@@ -51,7 +51,7 @@ IsInAFile form s e =
 abbrev pub HasLetter : System → Entry → Type 0
 HasLetter s e = Among e s.letters
 
--- the entry is undelivered, pending, or deleted; or it is in a file, or has a dead letter
+-- the entry is undelivered, pending, in a file, or deleted, or it has a dead letter
 abbrev pub IsKept : Form → System → Entry → Type 0
 IsKept form s e = Among e s.server.fresh
     ⊎ (Among e.0 (pending_ids s.server.pending) ⊎ (IsInAFile form s e ⊎ (HasLetter s e ⊎ Among e.0 s.server.deleted)))

@@ -43,7 +43,7 @@ abbrev pub OthersChangeNothing : Type 0
 OthersChangeNothing = (form : Form) (s : System) (name : Name) (m : Move) → IsOther name m
     → (moves form s m).workers name ≡ s.workers name
 
--- the moves of a round. The worker commits and sends its command; after the moves `others` it gets the reply
+-- the moves of a round. The worker commits and sends its command. After the moves `others` it gets the reply
 -- `which`
 abbrev pub round_of : Name → Settings → List Move → ℕ → Turn → List Move
 round_of name settings others which turn = Commits name ∷ Sends name settings

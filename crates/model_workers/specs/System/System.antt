@@ -1,4 +1,4 @@
--- A server, workers that fulfil their contracts, their files, and the dead letters of given-up entries; and the
+-- A server, workers that fulfil their contracts, their files, the dead letters of given-up entries, and the
 -- possible moves.
 use Rattle.std.specs.Prelude.{ℕ, Bool, false, not, List, [], ◌∷◌, ◌++◌, drop, filter, Option, Some, None, if◌then◌else◌}
 use Rattle.redis_wire.specs.Reply as wire
@@ -66,8 +66,8 @@ serves s (Go_back consumer) = s
 serves s (Crash consumer every keeps ids) = s
 serves s event = server_of (group.happens (world_with s) event)
 
--- a worker's queue of dead letters: the entries that it claimed and gives up, in order. Each waits for its dead letter,
--- and then for its acknowledgement
+-- a worker's queue of dead letters: the entries that the worker claimed and gives up, in order. Each entry
+-- waits for its dead letter, and then for its acknowledgement
 pub record Desk : Type 0 where
   pub waiting : List Entry
   pub added : Bool  -- the dead letter of the first one was added, and the reply to that arrived
@@ -110,14 +110,15 @@ pub data Move : Type 0 where
   Serves : (event : group.Event Fields) → Move
   -- a worker commits, if there is something to commit and nothing to acknowledge
   Commits : (name : Name) → Move
-  -- a worker sends its next command; an XACK of what is committed may arrive at the server from then on
+  -- a worker sends its next command. From then on an XACK of what is committed may arrive at the server
   Sends : (name : Name) (settings : Settings) → Move
-  -- a reply to its command arrives at a worker, whose handler returns these verdicts for the entries
+  -- the reply to a command of a worker arrives. The handler returns `verdicts` for the entries
   Hears : (name : Name) (settings : Settings) (which : ℕ) (reply : wire.Answer) (verdicts : List Verdict) → Move
-  -- a round of a worker fails: it starts over with its own pending entries, and with this state of the group
+  -- a round of a worker fails. The worker starts over with its own pending entries, and `state` is what is
+  -- known of the group
   Breaks : (name : Name) (state : GroupState) (question : Asked) → Move
-  -- the reply to its XCLAIM of one id arrives at a worker and has this entry, which is appended to its queue. For
-  -- the server the XCLAIM is a `Claim` that picks the id
+  -- the reply to an XCLAIM of one id arrives at a worker and has the entry `e`, which is appended to the
+  -- worker's queue. For the server the XCLAIM is a `Claim` that picks the id
   Posts : (name : Name) (which : ℕ) (e : Entry) → Move
   -- the reply to the XADD of the first entry's dead letter arrives at the queue of a worker
   Adds_letter : (name : Name) → Move
@@ -125,10 +126,10 @@ pub data Move : Type 0 where
   Sends_ack : (name : Name) → Move
   -- the reply to that XACK arrives, and the queue of the worker removes the entry
   Settles : (name : Name) (which : ℕ) → Move
-  -- a worker crashes, or is killed, and is started again. Its file has what was committed and any bytes after it, and
-  -- is cut after its last line feed. Each entry that its handler did and that is a line of the file is committed.
-  -- It reads lines of its file back, and begins to acknowledge those of these ids that are in them. Its handler may
-  -- have any entries as committed before. Its queue is empty
+  -- a worker crashes, or is killed, and is started again. Its file has the committed bytes and the bytes `torn`
+  -- after them, and is cut after its last line feed. An entry that the handler did is committed if it is a line
+  -- of the file. The worker begins to acknowledge each of `ids` that has a committed line in the file. The
+  -- handler has the entries `before` as committed. The queue is empty
   Restarts : (name : Name) (settings : Settings) (torn : List ℕ) (ids : List Id) (before : List Entry) → Move
 
 -- the worker after its commit, if it commits

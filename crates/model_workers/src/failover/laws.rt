@@ -11,9 +11,9 @@ pub fn entries_are_looked_up()
 {}
 
 /// A worker whose handler checks its file (`LooksUp`) is the consumer of `model_server::failover`, in which the
-/// server may return to an earlier state. This holds after each schedule (`Runs`) of rounds, of failed or
-/// unconfirmed rounds, of broken connections, of crashes with the start after them, and of failovers. If the
-/// worker makes its rounds by `round_confirmed`, a WAIT follows each of its requests for entries.
+/// server may return to an earlier state. This holds after each schedule (`Runs`) of rounds, failed or
+/// unconfirmed rounds, broken connections, crashes with the start after them, and failovers. If the worker
+/// makes its rounds by `round_confirmed`, a WAIT follows each of its requests for entries.
 ///
 /// There are four premises. The worker gets the reply that the model's server sent. The reply to WAIT is the
 /// one that this server sent. A start reads back at least the lines of its last commit. After a failover the

@@ -15,8 +15,8 @@ pub fn each_entry_is_kept()
     ensures { EachEntryIsKept }
 {}
 
-/// Each acknowledged entry is a line of some worker's file, whatever a crash leaves of that file; or it has a
-/// dead letter, or was deleted.
+/// Each acknowledged entry is a line of some worker's file, whatever a crash leaves of that file. Otherwise it
+/// has a dead letter, or was deleted.
 pub fn what_is_acknowledged_is_in_a_file()
     ensures { AcknowledgedIsInAFile }
 {}
@@ -43,8 +43,8 @@ pub fn a_started_worker_acknowledges_its_lines()
     ensures all { BeginsWithAllItReads }
 {}
 
-/// The model's file is one of `worker_journal`: its repair leaves the same lines, and its lines of text
-/// are a form.
+/// The model's file is a file of `worker_journal`. The repair by `worker_journal` leaves the lines of the
+/// model, and its lines of text are a form.
 pub fn files_are_those_of_line_log()
     ensures repaired { RepairsToWholeLines }
     ensures text { TextIsAForm }

@@ -10,11 +10,10 @@ ghost use Rattle.model_workers.specs.System.Once.{RoundsAreEvents, RoundsRun, Ru
 ghost use Rattle.model_workers.specs.System.Once.{StartsAreEvents, StartsReadEnough};
 ghost use Rattle.model_workers.specs.System.Rounds.{FailuresAreMoves, OthersChangeNothing, RoundsAreMoves, StartsAreMoves};
 
-/// After any moves each entry that was ever added is undelivered, or pending, or is a line of some worker's
-/// file, whatever a crash leaves of it; or its dead letter was added and the reply arrived; or it was deleted. Each
-/// entry that is acknowledged is a line of some file, or it has such a letter, or it was deleted. The premise
-/// is that a worker, and its queue of dead letters, get only replies that are on their way to it
-/// (`AllHearTruly`).
+/// After any moves each entry that was ever added is undelivered, pending, deleted, or a line of some worker's
+/// file, whatever a crash leaves of that file. Otherwise its dead letter was added and the reply arrived. Each
+/// acknowledged entry is a line of some file, has such a letter, or was deleted. The premise is that a worker,
+/// and its queue of dead letters, get only replies that are on their way to the worker (`AllHearTruly`).
 pub fn each_entry_is_kept()
     ensures kept { EachEntryIsKept }
     ensures acknowledged { AcknowledgedIsSettled }
