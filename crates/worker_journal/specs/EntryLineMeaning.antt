@@ -1,4 +1,4 @@
--- What an entry out of a line means.
+-- The meaning of an entry that is read from a line.
 use Rattle.std.specs.Prelude.{ℕ, List, map, Vec}
 use Rattle.std.specs.declared.alloc.Global.{Global}
 use Rattle.worker_journal.specs.declared.entry_line.LineEntry.{LineEntry}
@@ -8,6 +8,6 @@ use Rattle.worker_journal.specs.EntryLine.{Entry}
 abbrev pub field_of : Vec ℕ Global × Vec ℕ Global → List ℕ × List ℕ
 field_of p = (p.0.items, p.1.items)
 
--- the entry, as bytes
+-- the entry as bytes
 abbrev pub entry_of : LineEntry → Entry
 entry_of e = (e.id.items, map field_of e.fields.items)

@@ -1,8 +1,9 @@
--- How a text is escaped in a line.
+-- The escapes of a text in a line.
 use Rattle.std.specs.Prelude.{◌≡◌, ◌≢◌, ℕ, List, [], ◌∷◌, if◌then◌else◌, ◌==◌}
 use Rattle.std.specs.List.{flat_map, AllByRecursion}
 
--- a backslash, a tab, a line feed and a carriage return as `\\`, `\t`, `\n` and `\r`; other bytes as they are
+-- the escape of a byte. A backslash, a tab, a line feed and a carriage return are written as `\\`, `\t`, `\n`
+-- and `\r`. Other bytes stay as they are
 abbrev pub escaped_byte : ℕ → List ℕ
 escaped_byte b =
     if b == 92 then 92 ∷ 92 ∷ []
@@ -11,28 +12,28 @@ escaped_byte b =
     else if b == 13 then 92 ∷ 114 ∷ []
     else b ∷ []
 
--- a text, byte by byte
+-- the text with each byte escaped
 abbrev pub escaped : List ℕ → List ℕ
 escaped text = flat_map escaped_byte text
 
--- the byte that is written after a backslash
+-- the byte of an escape, where `c` is the byte after the backslash
 abbrev pub byte_of : ℕ → ℕ
 byte_of c = if c == 116 then 9 else if c == 110 then 10 else if c == 114 then 13 else c
 
--- a text out of a line
+-- the text without its escapes
 abbrev pub unescaped : List ℕ → List ℕ
 unescaped [] = []
 unescaped (b ∷ []) = b ∷ []
 unescaped (b ∷ c ∷ rest) = if b == 92 then byte_of c ∷ unescaped rest else b ∷ unescaped (c ∷ rest)
 
--- neither a tab nor an end of a line
+-- the byte is not a tab, a line feed or a carriage return
 abbrev pub IsPlain : ℕ → Type 0
 IsPlain b = (b ≢ 9) × (b ≢ 10) × (b ≢ 13)
 
--- a text is read back out of its line
+-- the law: unescaping an escaped text returns the text
 abbrev pub TextsComeBack : Type 0
 TextsComeBack = (text : List ℕ) → unescaped (escaped text) ≡ text
 
--- an escaped text has no tab and no end of a line in it
+-- the law: an escaped text has no tab, no line feed and no carriage return
 abbrev pub TextsArePlain : Type 0
 TextsArePlain = (text : List ℕ) → AllByRecursion IsPlain (escaped text)

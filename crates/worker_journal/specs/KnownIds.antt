@@ -1,4 +1,4 @@
--- Which ids are known, and the ids of lines.
+-- The known ids, and the ids of lines.
 pub mod Cut
 pub mod Number
 pub mod Known

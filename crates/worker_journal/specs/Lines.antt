@@ -2,7 +2,7 @@
 use Rattle.std.specs.Prelude.{◌≡◌, ◌≢◌, ◌≤◌, ◌⊎◌, ℕ, List, [], ◌∷◌, ◌++◌, length, take, drop, Option, Some, IfSome}
 use Rattle.std.specs.List.{AllByRecursion}
 
--- no line ends in these bytes
+-- the bytes have no line feed
 abbrev pub HasNoEnd : List ℕ → Type 0
 HasNoEnd bytes = AllByRecursion (λ b. b ≢ 10) bytes
 
@@ -10,15 +10,15 @@ HasNoEnd bytes = AllByRecursion (λ b. b ≢ 10) bytes
 abbrev pub AreLines : List ℕ → Type 0
 AreLines bytes = (bytes ≡ []) ⊎ ((front : List ℕ) × (bytes ≡ front ++ 10 ∷ []))
 
--- the bytes begin with these
+-- `bytes` starts with `front`
 abbrev pub StartsWith : List ℕ → List ℕ → Type 0
 StartsWith front bytes = (behind : List ℕ) × (bytes ≡ front ++ behind)
 
--- whichever of these is left, it begins with these bytes
+-- each outcome starts with `front`
 abbrev pub EachStartsWith : List ℕ → (List ℕ → Type 0) → Type 0
 EachStartsWith front outcomes = (c : List ℕ) → outcomes c → StartsWith front c
 
--- the bytes have this line: complete lines before it, and its end after it
+-- `bytes` has the line `line`, with complete lines before it and a line feed after it
 pub record HasLine (line bytes : List ℕ) : Type 0 where
   pub before : List ℕ
   pub rest : List ℕ
@@ -26,13 +26,13 @@ pub record HasLine (line bytes : List ℕ) : Type 0 where
   pub whole : AreLines before
   pub one_line : HasNoEnd line
 
--- the file is these complete lines, and after them a last line that has no end
+-- the file is the complete lines `lines`, and then a last line `torn` without a line feed
 pub record IsLinesAnd (file lines torn : List ℕ) : Type 0 where
   pub split : file ≡ lines ++ torn
   pub whole : AreLines lines
   pub torn_line : HasNoEnd torn
 
--- the first n bytes of the known file are complete lines, and no line ends after them
+-- the first `end` bytes of the known file are complete lines, and no line feed is after them
 abbrev pub EndsAt : Option (List ℕ) → ℕ → Type 0
 EndsAt known end = IfSome known (λ file. (end ≤ length file) × AreLines (take end file) × HasNoEnd (drop end file))
 
@@ -41,7 +41,8 @@ abbrev pub IsRepaired : Option (List ℕ) → Option (List ℕ) → Type 0
 IsRepaired old new =
     IfSome old (λ file. (lines : List ℕ) × (torn : List ℕ) × IsLinesAnd file lines torn × (new ≡ Some lines))
 
--- a crash left the same complete lines, and after them at most a last line that has no end
+-- the bytes `c` that a crash left have the complete lines of the known file. After these lines they have at
+-- most a line without a line feed
 abbrev pub HasTheLines : Option (List ℕ) → List ℕ → Type 0
 HasTheLines old c = IfSome old (λ file. (lines : List ℕ) × (torn : List ℕ) × (left : List ℕ)
     × IsLinesAnd file lines torn × IsLinesAnd c lines left)

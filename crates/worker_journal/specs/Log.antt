@@ -3,11 +3,12 @@ use Rattle.worker_journal.specs.declared.error.LogError.{LogError}
 use Rattle.worker_journal.specs.declared.error.LogError.TheVariants.{Memory, File}
 use Rattle.std.specs.Prelude.{◌≡◌, ◌≤◌, ℕ, List, ◌++◌, length, Option, IfSome}
 
--- a crash left the content of the known file, and after it at most as many bytes as were written
+-- the bytes `c` that a crash left start with the known file. After it they have at most as many bytes as
+-- `batch`
 abbrev pub BeginsWith : Option (List ℕ) → List ℕ → List ℕ → Type 0
 BeginsWith old batch c = IfSome old (λ file. (behind : List ℕ) × (c ≡ file ++ behind) × (length behind ≤ length batch))
 
--- an error of the system
+-- the error is an error of the system
 abbrev pub IsOfTheSystem : LogError → Type 0
 IsOfTheSystem Memory = ⊥
 IsOfTheSystem (File reason) = Unit {0}

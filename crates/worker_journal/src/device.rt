@@ -1,4 +1,4 @@
-//! A file as a log sees it: what a read returns, and what a crash may leave.
+//! A file for a log: the bytes that a read returns, and the bytes that a crash may leave.
 ghost use Rattle.std.specs.Prelude.{◌≡◌, ◌≤◌, List, ℕ, Option, Some, length, take, drop, IfOk, OnOk, IfSome, IsSome, IsNone};
 ghost use Rattle.std.specs.Io.KnownBytes.{Appends};
 ghost use Rattle.worker_journal.specs.Device.{Only, Follows, IsTorn, IsCut, Elapses};
@@ -9,26 +9,27 @@ use std::alloc::Global;
 
 /// A file that lines are appended to.
 ///
-/// Its clauses are those of a disk. What was written before a sync stays after any crash. In place of what was
-/// appended after that, a crash may leave any bytes, at most as many as were written.
+/// The contracts are those of a disk. Bytes that were written before a sync stay after any crash. In place of
+/// bytes that were appended later, a crash may leave any bytes, at most as many as were written.
 pub trait LogFile {
-    /// What a read returns, if that is known.
+    /// The bytes that a read returns, if they are known.
     ghost seen: { Self → Option (List ℕ) };
 
-    /// What a crash at this moment may leave.
+    /// The bytes that a crash at this moment may leave.
     ghost may_leave: { Self → List ℕ → Type 0 };
 
-    /// The moment, as a number that never decreases.
+    /// The current moment, as a number that never decreases.
     ghost moment: { Self → ℕ };
 
-    /// What a crash at some moment from that one on might have left, during a call or between two.
+    /// The bytes that a crash at this moment or later may have left, during a call or between two calls.
     ghost left_since: { Self → ℕ → List ℕ → Type 0 };
 
-    /// What is written from now on can be synced to the disk: no sync failed since the file was opened or cut
-    /// back to what the disk has. A system drops what it could not write, and the next sync does not report it.
+    /// Whether bytes that are written from now on can be synced to the disk. No sync has failed since the file
+    /// was opened, or since it was cut back to the bytes on the disk. A system drops what it could not write,
+    /// and the next sync does not report this.
     ghost is_sound: { Self → Type 0 };
 
-    /// The length of the file in bytes.
+    /// Returns the length of the file in bytes.
     fn len(&self) -> Result<usize, LogError>
         ensures { IfOk result (λ n. IfSome (seen self.now) (λ bytes. n ≡ length bytes)) };
 
@@ -48,7 +49,7 @@ pub trait LogFile {
         ensures time { Elapses (moment self.old) (moment self.new)
             (left_since self.old) (left_since self.new) (may_leave self.new) };
 
-    /// Cuts the file to a length. What is left is sound, if all of it is on the disk.
+    /// Cuts the file to a length. The remaining file is sound if all of it is on the disk.
     fn cut(&mut self, len: usize) -> Result<(), LogError>
         ensures cut { OnOk result (IfSome (seen self.old)
             (λ bytes. seen self.new ≡ Some (take len bytes))) }
@@ -61,7 +62,7 @@ pub trait LogFile {
         ensures time { Elapses (moment self.old) (moment self.new)
             (left_since self.old) (left_since self.new) (may_leave self.new) };
 
-    /// Syncs the file: after it, a crash leaves what a read returns, if the file is sound.
+    /// Syncs the file. After that a crash leaves the bytes that a read returns, if the file is sound.
     fn sync(&mut self) -> Result<(), LogError>
         ensures durable { OnOk result (is_sound self.old → IfSome (seen self.old)
             (λ bytes. Only bytes (may_leave self.new))) }
@@ -71,14 +72,14 @@ pub trait LogFile {
         ensures time { Elapses (moment self.old) (moment self.new)
             (left_since self.old) (left_since self.new) (may_leave self.new) };
 
-    /// A crash may leave what a read returns.
+    /// A crash may leave the bytes that a read returns.
     ghost seen_is_left: { (file : Self) → IfSome (seen file) (may_leave file) };
 
-    /// The current moment counts among those since an earlier one.
+    /// What a crash may leave now is included in what a crash since an earlier moment may have left.
     ghost counts_now: { (file : Self) (t : ℕ) (c : List ℕ) → t ≤ moment file
         → may_leave file c → left_since file t c };
 
-    /// Since this moment there was no other.
+    /// A crash since the current moment may have left only what a crash may leave now.
     ghost only_now: { (file : Self) (c : List ℕ) → left_since file (moment file) c
         → may_leave file c };
 }

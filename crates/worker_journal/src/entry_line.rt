@@ -9,7 +9,7 @@ use crate::escape::push_escaped;
 use std::alloc::{AllocError, Global};
 use std::mem;
 
-/// An entry out of a line.
+/// An entry that was read from a line.
 #[derive(Debug, Drop)]
 pub struct LineEntry {
     /// The id.
@@ -18,8 +18,8 @@ pub struct LineEntry {
     pub fields: Vec<(Vec<u8>, Vec<u8>)>,
 }
 
-/// The entry of a line, without the line feed; None if it is the line of no entry. It fails only if it
-/// is out of memory.
+/// Returns the entry of a line without its line feed, or `None` if the line is not that of an entry. Fails only
+/// if memory runs out.
 pub fn entry_in(alloc: Global, line: &[u8]) -> Result<Option<LineEntry>, AllocError>
     ensures { IfOk result (λ o. IsEntryIn line.now (option_map entry_of o)) }
 {
@@ -47,7 +47,7 @@ fn push_entry(out: &mut Vec<u8>, entry: &LineEntry) -> Result<(), AllocError>
     Ok(())
 }
 
-/// The texts of a line, which tabs separate, without their escapes.
+/// Returns the texts of a line, which tabs separate, without their escapes.
 fn split_line(alloc: Global, line: &[u8]) -> Result<Vec<Vec<u8>>, AllocError>
     ensures { IfOk result (λ texts. bytes_of texts.items ≡ texts_of line.now) }
 {
@@ -84,7 +84,7 @@ fn take_byte(
     Ok(false)
 }
 
-/// The byte that an escape means, by the byte after its backslash.
+/// Returns the byte of an escape, by the byte after its backslash.
 fn plain_byte(byte: u8) -> u8
     ensures { result ≡ byte_of byte }
 {
@@ -96,7 +96,8 @@ fn plain_byte(byte: u8) -> u8
     }
 }
 
-/// The entry of these texts: an id, and names and values two by two; None if one is left over.
+/// Returns the entry of these texts: an id, and names and values by turns. Returns `None` if the last name has
+/// no value.
 fn entry_of_texts(alloc: Global, texts: Vec<Vec<u8>>) -> Result<Option<LineEntry>, AllocError>
     ensures { IfOk result (λ o. option_map entry_of o ≡ entry_of_list (bytes_of texts.items)) }
 {

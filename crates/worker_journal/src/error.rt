@@ -12,7 +12,7 @@ pub enum LogError {
     /// Out of memory. Nothing was written.
     #[error("out of memory")]
     Memory,
-    /// The system refused.
+    /// The system returned an error.
     #[error("{0}")]
     File(io::Error),
 }

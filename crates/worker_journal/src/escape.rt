@@ -1,4 +1,4 @@
-//! How a text is escaped in a line.
+//! Escapes a text for a line.
 ghost use Rattle.std.specs.Prelude.{◌≡◌, ◌++◌, OnOk, OnErr, length, take};
 ghost use Rattle.worker_journal.specs.Escape.{escaped, escaped_byte};
 

@@ -1,8 +1,8 @@
 //! The ids of the entries in a file of lines.
 //!
-//! `KnownIds` holds ids in the order of their numbers, each with the offset of its line: 24 bytes for each. An
-//! id above all of them is new without a search; any other is found by binary search. `numbers_of_file` reads a
-//! file from its start, and returns the ids of its complete lines.
+//! `KnownIds` has ids in the order of their numbers, each with the offset of its line, in 24 bytes each. An id
+//! greater than all of them is new without a search. Any other id is found by binary search. `numbers_of_file`
+//! reads a file from its start, and returns the ids of its complete lines.
 
 mod file;
 mod head;

@@ -13,8 +13,8 @@ use std::mem;
 /// How many bytes are read at once.
 const PIECE: usize = 65_536;
 
-/// The last `number` lines of the first `len` bytes of a file, in order, without line feeds; all lines if there
-/// are fewer. Bytes after the last line feed are not a line.
+/// Returns the last `number` lines of the first `len` bytes of a file, in order and without line feeds. Returns
+/// all lines if there are fewer. Bytes after the last line feed are not a line.
 pub fn last_lines_in<D: LogFile>(
     alloc: Global,
     file: &D,
@@ -28,8 +28,8 @@ pub fn last_lines_in<D: LogFile>(
     lines_from(alloc, file, from, len)
 }
 
-/// The offset of the last `number` lines of the first `len` bytes of a file. It reads from the end, and no
-/// further than the end of the line before them.
+/// Returns the offset of the last `number` lines of the first `len` bytes of a file. Reads the file from its
+/// end, and no further than the end of the line before these lines.
 fn find_last_start<D: LogFile>(
     alloc: Global,
     file: &D,
@@ -52,8 +52,8 @@ fn find_last_start<D: LogFile>(
     Ok(0)
 }
 
-/// The offset of the last `left` lines of these bytes, if the end of a line is before them. If not, the lines
-/// that end among these bytes are subtracted from `left`.
+/// Returns the offset of the last `left` lines of these bytes, if the end of a line is before them. Otherwise
+/// subtracts the number of lines that end in these bytes from `left`.
 fn start_within(bytes: &[u8], left: &mut usize) -> Option<usize>
     ensures within { IfSome result (λ at. (0 < at) × (at ≤ length bytes.now)) }
     ensures start { IfSome result (λ at. AreLines (take at bytes.now)
@@ -73,7 +73,7 @@ fn start_within(bytes: &[u8], left: &mut usize) -> Option<usize>
     None
 }
 
-/// The lines from this offset on, among the first `len` bytes of a file, without line feeds.
+/// Returns the lines from this offset on, among the first `len` bytes of a file, without line feeds.
 fn lines_from<D: LogFile>(
     alloc: Global,
     file: &D,
@@ -95,7 +95,7 @@ fn lines_from<D: LogFile>(
     Ok(lines)
 }
 
-/// Takes more bytes of a file: appends the lines that they end, and keeps the start of the next one.
+/// Takes more bytes of a file. Appends the lines that end in them, and keeps the start of the next line.
 fn take_bytes(
     alloc: Global,
     lines: &mut Vec<Vec<u8>>,
@@ -110,7 +110,7 @@ fn take_bytes(
     Ok(())
 }
 
-/// Takes one byte more.
+/// Takes one more byte of a file.
 fn take_byte(
     alloc: Global,
     lines: &mut Vec<Vec<u8>>,

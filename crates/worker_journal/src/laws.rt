@@ -2,8 +2,8 @@
 ghost use Rattle.worker_journal.specs.EntryLine.{LinesAreWhole, LinesTellEntries};
 ghost use Rattle.worker_journal.specs.Escape.{TextsArePlain, TextsComeBack};
 
-/// A text that is escaped can be read back, and an escaped text has no tab and no end of a line in
-/// it. So a line that is split at its tabs gives its texts.
+/// Unescaping an escaped text returns the text. An escaped text has no tab and no end of a line. So splitting a
+/// line at its tabs gives its texts.
 pub fn texts_come_back()
     ensures back { TextsComeBack }
     ensures plain { TextsArePlain }

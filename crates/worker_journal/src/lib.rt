@@ -1,12 +1,12 @@
 //! A file of lines that a crash does not undo.
 //!
-//! Lines are gathered, and `commit` makes one write and one sync of them. Once it has returned Ok,
-//! a crash at any moment leaves a file that begins with all lines that were committed. Opening the
-//! file finds a last line that has no end, and cuts it off.
+//! Lines are gathered, and `commit` makes one write and one sync of them. Once `commit` has returned `Ok`, a
+//! crash at any moment leaves a file that begins with all committed lines. Opening the file cuts off a last
+//! line without a line feed.
 //!
-//! A line of an entry is its id and its fields, in order and with repeated ones, separated by tabs; in each of
-//! them a backslash, a tab, a line feed and a carriage return are written as `\\`, `\t`, `\n` and `\r`, so that
-//! an entry is one line. Other bytes are as they are.
+//! A line of an entry is its id and its fields, in order and with repeated ones, separated by tabs. In each
+//! text a backslash, a tab, a line feed and a carriage return are written as `\\`, `\t`, `\n` and `\r`. So an
+//! entry is one line. Other bytes stay as they are.
 #![tactic(auto)]
 
 mod device;

@@ -17,22 +17,22 @@ use std::io::{self, ErrorKind};
 
 /// A file of lines, and the lines that are not committed yet.
 ///
-/// After a commit that failed the next one first cuts the file back to what is committed: a system drops what
-/// it could not write, and a later sync does not report it.
+/// After a failed commit the next one first cuts the file back to the committed bytes. A system drops what it
+/// could not write, and a later sync does not report this.
 #[derive(Drop)]
 pub struct LineLog<D: LogFile + Drop> {
     file: D,
     batch: Vec<u8>,
-    /// How many bytes of the file are committed.
+    /// The number of committed bytes of the file.
     len: usize,
-    /// Whether bytes of a failed commit may be after them.
+    /// Whether bytes of a failed commit may be after the committed bytes.
     is_broken: bool,
 }
 
 impl<D: LogFile + Drop> LineLog<D> {
-    /// Opens a log over this file, whose last line is repaired first.
+    /// Opens a log over this file, and first repairs its last line.
     ///
-    /// A crash at any moment of it leaves each complete line that is on the disk. So lines that were committed
+    /// A crash at any moment of the call leaves each complete line that is on the disk. So committed lines
     /// stay, even if a process was killed before the end of its last batch was on the disk.
     pub fn open(alloc: Global, file: D) -> Result<LineLog<D>, LogError>
         ensures file { IfOk result (λ log. IsRepaired (D.seen file) (D.seen log.file)) }
@@ -61,8 +61,8 @@ impl<D: LogFile + Drop> LineLog<D> {
         })
     }
 
-    /// Adds a line to the next commit, without its line feed. It is in the file after the commit. An `Err`
-    /// changes nothing.
+    /// Adds a line, without its line feed, to the next commit. The line is in the file after the commit. An
+    /// `Err` changes nothing.
     pub fn add_line(&mut self, line: &[u8]) -> Result<(), LogError>
         ensures ok { OnOk result
             (self.new.batch.items ≡ self.old.batch.items ++ (line.now ++ 10 ∷ [])) }
@@ -75,9 +75,9 @@ impl<D: LogFile + Drop> LineLog<D> {
 
     /// Writes the lines that were added, and syncs them to the disk: one write and one sync.
     ///
-    /// After an Ok every crash leaves a file that begins with what it had before and these lines. A crash at
-    /// any moment of the call leaves what the file had before, followed by at most as many bytes as these
-    /// lines have. After an `Err` what was committed before stays, and the next commit writes these lines too.
+    /// After an `Ok` every crash leaves a file that starts with its earlier content and these lines. A crash at
+    /// any moment of the call leaves the earlier content, followed by at most as many bytes as these lines
+    /// have. After an `Err` what was committed before stays, and the next commit writes these lines too.
     pub fn commit(&mut self) -> Result<(), LogError>
         ensures holds { OnOk result ((lines : List ℕ)
             → Holds D.seen D.may_leave D.is_sound lines self.old.file self.old.len self.old.is_broken
@@ -125,7 +125,7 @@ impl<D: LogFile + Drop> LineLog<D> {
         Ok(())
     }
 
-    /// Cuts off what a failed commit left. A crash at any moment of it leaves what is committed.
+    /// Cuts off the rest of a failed commit. A crash at any moment of the call leaves the committed bytes.
     fn cut_back(&mut self) -> Result<(), LogError>
         ensures rest { (self.new.batch ≡ self.old.batch) × (self.new.len ≡ self.old.len)
             × (self.new.is_broken ≡ self.old.is_broken) }
@@ -153,8 +153,8 @@ impl<D: LogFile + Drop> LineLog<D> {
         Ok(())
     }
 
-    /// The last `number` committed lines, in order, without line feeds; all lines if there are fewer. It
-    /// changes nothing. Besides these lines it uses the memory of one piece of the file.
+    /// Returns the last `number` committed lines, in order and without line feeds, or all lines if there are
+    /// fewer. Besides these lines the call allocates only one piece of the file.
     pub fn last_lines(&self, alloc: Global, number: usize) -> Result<Vec<Vec<u8>>, LogError>
         ensures { IfOk result (λ lines. IfSome (committed_in (D.seen self.now.file) self.now.len)
             (λ bytes. bytes_of lines.items ≡ last_of number (lines_of bytes))) }
@@ -162,7 +162,8 @@ impl<D: LogFile + Drop> LineLog<D> {
         last_lines_in(alloc, &self.file, self.len, number)
     }
 
-    /// The offset at which the next line begins: the bytes that are committed or added.
+    /// Returns the offset at which the next line begins. This is the number of bytes that are committed or
+    /// added.
     pub fn end(&self) -> Result<usize, LogError>
         ensures { IfOk result (λ at. at ≡ self.now.len + length self.now.batch.items) }
     {
@@ -172,8 +173,8 @@ impl<D: LogFile + Drop> LineLog<D> {
         }
     }
 
-    /// Reads `len` bytes from this offset on, or fewer at the end, of the committed lines and those that were
-    /// added after them. It changes nothing.
+    /// Reads `len` bytes from this offset on, or fewer at the end. The bytes are those of the committed lines
+    /// and of the lines added after them.
     pub fn bytes_at(&self, alloc: Global, at: usize, len: usize) -> Result<Vec<u8>, LogError>
         ensures { IfOk result (λ read. IfSome (committed_in (D.seen self.now.file) self.now.len)
             (λ bytes. self.now.len ≡ length bytes
@@ -186,7 +187,7 @@ impl<D: LogFile + Drop> LineLog<D> {
         Ok(read)
     }
 
-    /// The file. Lines that were not committed are not in it.
+    /// Returns the file. Lines that were not committed are not in it.
     pub fn into_file(self) -> D
         ensures { result ≡ self.file }
     {
@@ -194,7 +195,7 @@ impl<D: LogFile + Drop> LineLog<D> {
     }
 }
 
-/// `len` of these bytes from an offset on, or fewer at the end.
+/// Returns `len` of these bytes from an offset on, or fewer at the end.
 fn part(bytes: &[u8], at: usize, len: usize) -> &[u8]
     ensures { result.now ≡ take len (drop at bytes.now) }
 {
@@ -203,7 +204,7 @@ fn part(bytes: &[u8], at: usize, len: usize) -> &[u8]
     part
 }
 
-/// Appends a line and its end. An `Err` changes nothing.
+/// Appends a line and a line feed. An `Err` changes nothing.
 fn push_line(batch: &mut Vec<u8>, line: &[u8]) -> Result<(), LogError>
     ensures ok { OnOk result (batch.new.items ≡ batch.old.items ++ (line.now ++ 10 ∷ [])) }
     ensures err { OnErr result (batch.new.items ≡ batch.old.items) }

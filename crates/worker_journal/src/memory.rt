@@ -7,8 +7,8 @@ use crate::device::LogFile;
 use crate::error::LogError;
 use std::alloc::{AllocError, Global};
 
-/// A file in memory. Each call is done at once, so a crash leaves what is there. It keeps each
-/// content that it had.
+/// A file in memory. Each call takes effect at once, so a crash leaves the current bytes. The file keeps each
+/// earlier content.
 #[derive(Drop)]
 pub struct MemoryFile {
     alloc: Global,
@@ -17,7 +17,7 @@ pub struct MemoryFile {
 }
 
 impl MemoryFile {
-    /// A file with these bytes.
+    /// Returns a file with these bytes.
     pub fn new(alloc: Global, bytes: Vec<u8>) -> MemoryFile
         ensures { result.bytes.items ≡ bytes.items }
     {
@@ -28,7 +28,7 @@ impl MemoryFile {
         }
     }
 
-    /// The bytes that it has.
+    /// Returns the bytes of the file.
     pub fn bytes(&self) -> &[u8]
         ensures { result.now ≡ self.now.bytes.items }
     {

@@ -1,4 +1,4 @@
-//! The end of a file that a crash may have left.
+//! Repairs the end of a file after a crash.
 ghost use Rattle.std.specs.Prelude.{◌≡◌, ◌≤◌, ◌++◌, ℕ, List, Some, IfOk, IfSome, IsNone, OnOk, length, take, drop};
 ghost use Rattle.worker_journal.specs.Device.{IsOnDisk, LeavesOnly};
 ghost use Rattle.worker_journal.specs.Lines.{AreLines, EachStartsWith, EndsAt, HasNoEnd, HasTheLines, IsRepaired, StartsWith};
@@ -10,7 +10,7 @@ use std::alloc::Global;
 /// How many bytes are searched at once.
 const PIECE: usize = 65_536;
 
-/// The index after the last line feed of these bytes; 0 if there is none.
+/// Returns the index after the last line feed of these bytes, or 0 if there is none.
 fn last_end(bytes: &[u8]) -> usize
     ensures within { result ≤ length bytes.now }
     ensures lines { AreLines (take result bytes.now) }
@@ -23,8 +23,8 @@ fn last_end(bytes: &[u8]) -> usize
     end
 }
 
-/// How many bytes of a file are complete lines. It reads from the end, and no further than the last
-/// line feed.
+/// Returns how many bytes of a file are complete lines. Reads the file from its end, and no further than the
+/// last line feed.
 fn measure_lines<D: LogFile>(alloc: Global, file: &D) -> Result<usize, LogError>
     ensures { IfOk result (EndsAt (D.seen file.now)) }
 {
@@ -41,7 +41,7 @@ fn measure_lines<D: LogFile>(alloc: Global, file: &D) -> Result<usize, LogError>
     Ok(0)
 }
 
-/// Cuts off a last line without a line feed, syncs what is left, and returns the length of the file.
+/// Cuts off a last line without a line feed, and syncs the rest. Returns the length of the file.
 pub fn repaired_len<D: LogFile>(alloc: Global, file: &mut D) -> Result<usize, LogError>
     ensures end { IfOk result (EndsAt (D.seen file.old)) }
     ensures cut { IfOk result (λ end. IfSome (D.seen file.old)
@@ -61,11 +61,11 @@ pub fn repaired_len<D: LogFile>(alloc: Global, file: &mut D) -> Result<usize, Lo
     Ok(end)
 }
 
-/// Cuts off a last line without a line feed, and syncs what is left to the disk.
+/// Cuts off a last line without a line feed, and syncs the rest to the disk.
 ///
-/// A crash at any moment of it leaves the complete lines that were there, if all of the file is on the disk. After
-/// a process was killed, only a prefix of the file may be: then every crash leaves that prefix, if it consists of
-/// complete lines.
+/// A crash at any moment of the call leaves the complete lines, if all of the file is on the disk. After a
+/// process was killed, only a prefix of the file may be on the disk. Then every crash leaves that prefix, if it
+/// consists of complete lines.
 pub fn repair<D: LogFile>(alloc: Global, file: &mut D) -> Result<(), LogError>
     ensures repaired { OnOk result (IsRepaired (D.seen file.old) (D.seen file.new)) }
     ensures on_disk { OnOk result (D.is_sound file.old → IsOnDisk D.seen D.may_leave file.new) }

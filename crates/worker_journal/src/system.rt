@@ -14,17 +14,17 @@ use std::rt::Files;
 
 /// A file of the system, which no other log has open.
 ///
-/// No contract can state what the system writes or keeps, so its clauses claim nothing. That it is a file as
-/// `LogFile` requires is trusted. Each method makes one system call, except that short reads and writes are
-/// continued.
+/// No contract can state what the system writes or keeps, so the contracts here claim nothing. It is trusted
+/// that the file behaves as `LogFile` requires. Each method makes one system call, except that short reads and
+/// writes are continued.
 #[derive(Drop)]
 pub struct SystemFile {
     file: File,
 }
 
 impl SystemFile {
-    /// Opens the file of this path, and creates it if it does not exist. The error is of the kind
-    /// `WouldBlock` if another process has the file open as a log, with a text about that.
+    /// Opens the file with this path, and creates it if it does not exist. Returns an error of the kind
+    /// `WouldBlock` if another process has the file open as a log.
     pub fn open<R: Files<File = File>>(rt: &R, path: &str) -> Result<SystemFile, LogError>
         ensures { IfErr result IsOfTheSystem }
     {

@@ -12,25 +12,25 @@ use std::io::{self, ErrorKind};
 
 /// A file in memory that buffers what is appended until a sync, and tears in a crash.
 ///
-/// The caller chooses what a crash leaves of what was not synced: any bytes, at most as many as were written. A
-/// sync can be made to fail. Then the unsynced bytes are never written to the disk, and each later sync returns Ok
-/// all the same, as some systems do, until the file is cut back to what is on the disk.
+/// The caller chooses what a crash leaves of the unsynced bytes: any bytes, at most as many as were written. A
+/// sync can be made to fail. Then the unsynced bytes are never written to the disk, though each later sync
+/// returns `Ok`, as on some systems. This ends when the file is cut back to the bytes on the disk.
 #[derive(Drop)]
 pub struct TornFile {
     alloc: Global,
     content: Content,
     is_sound: bool,
-    /// The sync with this number fails, counted from now on; 0 if none does.
+    /// Which of the next syncs fails, counted from 1. If it is 0, none fails.
     failing: usize,
     past: Vec<Content>,
 }
 
-/// The bytes that each crash leaves, and those that one may leave.
+/// The bytes that each crash leaves, and the bytes that a crash may leave.
 #[derive(Drop)]
 struct Content {
     /// The bytes that each crash leaves.
     front: Vec<u8>,
-    /// The bytes that were cut off after them since the last sync.
+    /// The bytes that were cut off after `front` since the last sync.
     cut_off: Vec<u8>,
     /// The bytes that were appended since the last sync.
     waits: Vec<u8>,
@@ -38,14 +38,14 @@ struct Content {
     extra: usize,
 }
 
-/// A copy of the first `len` of these bytes.
+/// Returns a copy of the first `len` of these bytes.
 fn first(alloc: Global, bytes: &[u8], len: usize) -> Result<Vec<u8>, AllocError>
     ensures { IfOk result (λ first. first.items ≡ take len bytes.now) }
 {
     bytes.iter().take(len).copied().collect(alloc)
 }
 
-/// A copy of the bytes after the first `len`.
+/// Returns a copy of the bytes after the first `len`.
 fn rest(alloc: Global, bytes: &[u8], len: usize) -> Result<Vec<u8>, AllocError>
     ensures { IfOk result (λ rest. rest.items ≡ drop len bytes.now) }
 {
@@ -53,7 +53,7 @@ fn rest(alloc: Global, bytes: &[u8], len: usize) -> Result<Vec<u8>, AllocError>
 }
 
 impl Content {
-    /// Bytes that are on the disk.
+    /// Returns a content whose bytes are all on the disk.
     fn synced(alloc: Global, front: Vec<u8>) -> Content
         ensures { IsSynced result front.items }
     {
@@ -77,7 +77,7 @@ impl Content {
         })
     }
 
-    /// What a read returns.
+    /// Returns the bytes that a read returns.
     fn all(&self, alloc: Global) -> Result<Vec<u8>, AllocError>
         ensures { IfOk result (λ all. all.items ≡ all_of self.now) }
     {
@@ -86,7 +86,7 @@ impl Content {
         Ok(all)
     }
 
-    /// A copy with these bytes appended, not synced.
+    /// Returns a copy with these bytes appended and not synced.
     fn appended(&self, alloc: Global, bytes: &[u8]) -> Result<Content, AllocError>
         ensures seen { IfOk result (λ next. all_of next ≡ all_of self.now ++ bytes.now) }
         ensures crash { IfOk result (λ next.
@@ -97,7 +97,7 @@ impl Content {
         Ok(next)
     }
 
-    /// A copy cut to a length. A cut into the bytes on the disk drops all unsynced bytes.
+    /// Returns a copy that is cut to a length. A cut into the bytes on the disk drops all unsynced bytes.
     fn cut(&self, alloc: Global, len: usize) -> Result<Content, AllocError>
         ensures seen { IfOk result (λ next. all_of next ≡ take len (all_of self.now)) }
         ensures crash { IfOk result (λ next. Follows (IsCut len) (Leaves self.now) (Leaves next)) }
@@ -109,7 +109,8 @@ impl Content {
         }
     }
 
-    /// A copy whose bytes on the disk are cut to this length. The bytes after that may still be on the disk.
+    /// Returns a copy whose bytes on the disk are cut to this length. The bytes after that may still be on the
+    /// disk.
     fn cut_front(&self, alloc: Global, len: usize) -> Result<Content, AllocError>
         requires { len ≤ length self.now.front.items }
         ensures seen { IfOk result (λ next. all_of next ≡ take len (all_of self.now)) }
@@ -126,7 +127,8 @@ impl Content {
         })
     }
 
-    /// A copy with the first `len` of the unsynced bytes. Those after them may still be written to the disk.
+    /// Returns a copy with the first `len` of the unsynced bytes. The bytes after them may still be written to
+    /// the disk.
     fn cut_waits(&self, alloc: Global, len: usize) -> Result<Content, AllocError>
         ensures seen { IfOk result (λ next. all_of next
             ≡ take (length self.now.front.items + len) (all_of self.now)) }
@@ -160,7 +162,7 @@ fn replace(
 }
 
 impl TornFile {
-    /// A file with these bytes, all of them on the disk.
+    /// Returns a file with these bytes, all of them on the disk.
     pub fn new(alloc: Global, bytes: Vec<u8>) -> TornFile
         ensures now { IsSynced result.content bytes.items }
         ensures sound { result.is_sound ≡ true }
@@ -175,21 +177,21 @@ impl TornFile {
         }
     }
 
-    /// Makes the sync with this number fail, counted from now on; 0 for none.
+    /// Makes one of the next syncs fail, counted from 1. If the number is 0, none fails.
     pub fn fail_sync(&mut self, number: usize)
         ensures { self.new ≡ record self.old { failing = number } }
     {
         self.failing = number;
     }
 
-    /// The bytes that each crash leaves: those that were synced and not cut off.
+    /// Returns the bytes that each crash leaves: those that were synced and not cut off.
     pub fn on_disk(&self) -> &[u8]
         ensures { result.now ≡ self.now.content.front.items }
     {
         &self.content.front
     }
 
-    /// Whether it is sound once it is cut to this length.
+    /// Whether the file is sound after it is cut to this length.
     fn is_sound_at(&self, len: usize) -> bool
         ensures stays { self.now.is_sound ≡ true → result ≡ true }
         ensures mended { len ≤ length self.now.content.front.items → result ≡ true }
@@ -198,8 +200,8 @@ impl TornFile {
         self.is_sound || len <= self.content.front.len()
     }
 
-    /// Crashes, after which the file is opened again. It leaves `uncut` of the bytes that were cut off since
-    /// the last sync, and these bytes in place of those that were appended, at most as many.
+    /// Crashes, and opens the file again. The crash leaves `uncut` of the bytes that were cut off since the
+    /// last sync. In place of the appended bytes it leaves the given ones, at most as many.
     pub fn crash(&mut self, uncut: usize, behind: &[u8]) -> Result<(), LogError>
         ensures left { OnOk result (Leaves self.old.content (all_of self.new.content)) }
         ensures synced { OnOk result (IsSynced self.new.content (self.old.content.front.items

@@ -28,8 +28,8 @@ pub enum FileError {
     NoEntry(u64),
 }
 
-/// The numbers of the ids of the lines of a file, in order, and the offset of each line. Bytes after the last
-/// line feed are not a line. The file is read from its start, in pieces.
+/// Returns the numbers of the ids of a file's lines, in order, and the offset of each line. Bytes after the
+/// last line feed are not a line. Reads the file from its start, in pieces.
 pub fn numbers_of_file<D: LogFile>(
     alloc: Global,
     file: &D,
@@ -52,7 +52,7 @@ pub fn numbers_of_file<D: LogFile>(
     Ok(ids)
 }
 
-/// Reads a piece of the bytes that are left from `at`, or all of them if they are fewer.
+/// Reads a piece at `at`, or the `left` remaining bytes if they are fewer than a piece.
 fn next_piece<D: LogFile>(
     alloc: Global,
     file: &D,
@@ -66,7 +66,8 @@ fn next_piece<D: LogFile>(
     file.read_at(alloc, at, PIECE.min(left))
 }
 
-/// Takes more bytes of a file: appends the ids of the lines that they end. The start of the next line is kept.
+/// Takes more bytes of a file. Appends the ids of the lines that end in them, and keeps the start of the next
+/// line.
 fn take_piece(
     ids: &mut Vec<KnownId>,
     start: &mut usize,
@@ -86,7 +87,7 @@ fn take_piece(
     Ok(())
 }
 
-/// Takes the id of a line that has ended. The next line begins after it, and has no bytes yet.
+/// Takes the id of a line that has ended. The next line begins after this line, and has no bytes yet.
 fn take_line(
     ids: &mut Vec<KnownId>,
     start: &mut usize,
@@ -128,7 +129,7 @@ fn take_id(
     Ok(())
 }
 
-/// The offset after a line of this length and its line feed.
+/// Returns the offset after a line of this length and its line feed.
 fn behind(start: usize, len: usize) -> Result<usize, FileError>
     ensures { IfOk result (λ next. next ≡ start + suc len) }
 {
@@ -138,7 +139,8 @@ fn behind(start: usize, len: usize) -> Result<usize, FileError>
     }
 }
 
-/// The first line without its line feed, and what is after it. None if there is no line feed.
+/// Returns the first line without its line feed, and the bytes after it. Returns `None` if there is no line
+/// feed.
 fn split_line(bytes: &[u8]) -> Option<(&[u8], &[u8])>
     ensures some { IfSome result (λ s. bytes.now ≡ s.0.now ++ 10 ∷ s.1.now) }
     ensures first { IfSome result (λ s. Contains s.0.now 10 → ⊥) }

@@ -1,4 +1,4 @@
-//! The id at the head of a line.
+//! The id at the start of a line.
 ghost use Rattle.std.specs.Prelude.{◌≡◌, option_map};
 ghost use Rattle.worker_journal.specs.KnownIds.Told.{id_of_json, line_number};
 
@@ -8,8 +8,9 @@ const JSON_HEAD: &[u8] = b"{\"id\":\"";
 
 const JSON_NEXT: &[u8] = b"\",\"fields\":[";
 
-/// The number of the id at the head of a line, without its end. The line is `{"id":"1-0","fields":[` and more,
-/// or texts that tabs separate, of which the first is the id. None for any other line, or if the id is invalid.
+/// Returns the number of the id at the start of a line without its line feed. The line starts with
+/// `{"id":"1-0","fields":[`, or it has texts that tabs separate, of which the first is the id. Returns `None`
+/// for any other line, or if the id is invalid.
 pub fn line_number(line: &[u8], json: bool) -> Option<u128>
     ensures { result ≡ line_number json line.now }
 {
@@ -20,7 +21,7 @@ pub fn line_number(line: &[u8], json: bool) -> Option<u128>
     }
 }
 
-/// The id in a line of JSON.
+/// Returns the id in a line of JSON.
 fn id_of_json(line: &[u8]) -> Option<&[u8]>
     ensures { option_map (λ id. id.now) result ≡ id_of_json line.now }
 {

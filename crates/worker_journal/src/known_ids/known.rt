@@ -15,7 +15,7 @@ pub struct KnownId {
 }
 
 impl KnownId {
-    /// The id of this number, whose line begins at this offset.
+    /// Returns the id with this number. Its line begins at this offset.
     pub fn new(number: u128, place: usize) -> KnownId
         ensures number { number_in result ≡ number }
         ensures place { result.place ≡ place }
@@ -27,14 +27,14 @@ impl KnownId {
         }
     }
 
-    /// Its number.
+    /// Returns the number of the id.
     pub fn number(&self) -> u128
         ensures { result ≡ number_in self.now }
     {
         self.ms as u128 * 18_446_744_073_709_551_616 + self.seq as u128
     }
 
-    /// The offset of its line.
+    /// Returns the offset of the line of the id.
     pub fn place(&self) -> usize
         ensures { result ≡ self.now.place }
     {
@@ -50,7 +50,7 @@ pub struct KnownIds {
 }
 
 impl KnownIds {
-    /// These ids, in whatever order they are.
+    /// Sorts ids that are in any order.
     pub fn of(ids: Vec<KnownId>) -> KnownIds
         ensures numbers { (n : ℕ) → has (places_in result.ids.items) n ≡ has (places_in ids.items) n }
         ensures places { (n at : ℕ) → has_at (places_in result.ids.items) n at ≡ has_at (places_in ids.items) n at }
@@ -60,22 +60,22 @@ impl KnownIds {
         KnownIds { ids }
     }
 
-    /// How many there are.
+    /// Returns the number of ids.
     pub fn len(&self) -> usize
         ensures { result ≡ length self.now.ids.items }
     {
         self.ids.len()
     }
 
-    /// Whether this number is one of them.
+    /// Whether an id has this number.
     pub fn has(&self, number: u128) -> bool
         ensures { result ≡ has (places_in self.now.ids.items) number }
     {
         self.search(number).is_ok()
     }
 
-    /// The offset of the line of this number, or of one of its lines if it has several. None if the number is
-    /// not known.
+    /// Returns the offset of the line with this number, or of one of its lines if there are several. Returns
+    /// `None` if the number is not known.
     pub fn place_of(&self, number: u128) -> Option<usize>
         ensures some { is_some result ≡ has (places_in self.now.ids.items) number }
         ensures place { IfSome result (λ at. has_at (places_in self.now.ids.items) number at ≡ true) }
@@ -86,7 +86,7 @@ impl KnownIds {
         }
     }
 
-    /// Reserves memory for one more. It cannot fail if there is room for one more. An `Err` changes nothing.
+    /// Reserves memory for one more id. It cannot fail if there is room for one more. An `Err` changes nothing.
     pub fn make_room(&mut self) -> Result<(), AllocError>
         ensures room { OnOk result (HasRoom self.new.ids) }
         ensures full { OnErr result (HasRoom self.old.ids → ⊥) }
@@ -109,7 +109,7 @@ impl KnownIds {
         Ok(())
     }
 
-    /// The index at which this number would be inserted.
+    /// Returns an index at which this number can be inserted.
     fn find_gap(&self, number: u128) -> usize
         ensures { IsGap self.now.ids.items number result }
     {
@@ -119,7 +119,7 @@ impl KnownIds {
         }
     }
 
-    /// The index of this number, or as an `Err` the index at which it would be inserted.
+    /// Returns the index of this number, or as an `Err` the index at which it would be inserted.
     fn search(&self, number: u128) -> Result<usize, usize>
         ensures { IsFound self.now.ids.items number result }
     {

@@ -7,8 +7,9 @@ ghost use Rattle.worker_journal.specs.KnownIds.Number.{number_of, part_of, seq_o
 use itoa::Buffer;
 use redis_resp::unsigned_in;
 
-/// The number of an id: its milliseconds times 2^64, plus its sequence number. None if the text is not an id as
-/// servers write it: two numbers of 64 bits with a hyphen between them, with no sign and no leading zero.
+/// Returns the number of an id: its milliseconds times 2^64, plus its sequence number. Returns `None` unless
+/// the text is an id as servers write it. That is two numbers of 64 bits with a hyphen between them, without a
+/// sign and without leading zeros.
 pub fn number_of(text: &[u8]) -> Option<u128>
     ensures { result ≡ number_of text.now }
 {
@@ -18,7 +19,7 @@ pub fn number_of(text: &[u8]) -> Option<u128>
     Some(ms as u128 * 18_446_744_073_709_551_616 + seq as u128)
 }
 
-/// The sequence number, from the text after the milliseconds: a hyphen and the number.
+/// Returns the sequence number. The text is what follows the milliseconds: a hyphen and the number.
 fn seq_of(behind: &[u8]) -> Option<u64>
     ensures { result ≡ seq_of behind.now }
 {
@@ -28,7 +29,7 @@ fn seq_of(behind: &[u8]) -> Option<u64>
     }
 }
 
-/// The number of one part.
+/// Returns the number of one part of an id.
 fn part_of(text: &[u8]) -> Option<u64>
     ensures { result ≡ part_of text.now }
 {
@@ -40,7 +41,7 @@ fn part_of(text: &[u8]) -> Option<u64>
     }
 }
 
-/// How many bytes are before the first byte `end`.
+/// Returns how many bytes are before the first byte `end`.
 pub(crate) fn len_before(text: &[u8], end: u8) -> usize
     ensures count { result ≡ prefix_len (is_other end) text.now }
     ensures within { result ≤ length text.now }
