@@ -7,15 +7,15 @@ use std::fmt;
 /// The counts of a drain, shown at its end.
 #[derive(Clone, Copy)]
 pub struct Counts {
-    /// How many entries were drained.
+    /// The number of entries that were drained.
     pub entries: u64,
     pub batches: u64,
-    /// How many dead letters were sent; `None` if none are sent.
+    /// The number of dead letters that were sent. `None` if entries are not given up.
     pub letters: Option<u64>,
 }
 
 impl Counts {
-    /// All counts at 0, and no dead letters.
+    /// Returns counts of 0, without dead letters.
     pub fn new() -> Counts
         ensures { (result.entries ≡ 0) × (result.batches ≡ 0) × (result.letters ≡ None) }
     {

@@ -319,7 +319,7 @@ pub const EVERY: Number = Number {
 
 static BEGINNINGS: [&str; 2] = ["0", "$"];
 
-/// The option `--from`: where a newly created group begins.
+/// Returns the option `--from`, which says where a new group begins.
 pub fn from<'a>(alloc: Global) -> Arg<'a>
     ensures id { (rule_of result).id ≡ codes "from" }
     ensures long { (rule_of result).long ≡ Some (codes "from") }
@@ -333,7 +333,7 @@ pub fn from<'a>(alloc: Global) -> Arg<'a>
         .help("Makes a group that is missing: with all entries (0), or with those from then on ($)")
 }
 
-/// An option without a value, such as `--json`.
+/// Returns an option without a value, such as `--json`.
 pub fn flag<'a>(alloc: Global, name: &'a str, help: &'a str) -> Arg<'a>
     ensures { rule_of result ≡ record (new_rule name.entry.now) {
       long = Some name.entry.now;
@@ -346,7 +346,7 @@ pub fn flag<'a>(alloc: Global, name: &'a str, help: &'a str) -> Arg<'a>
         .help(help)
 }
 
-/// A required argument that is not empty, such as `KEY`.
+/// Returns a required argument that must not be empty, such as `KEY`.
 pub fn name<'a>(alloc: Global, name: &'a str, help: &'a str) -> Arg<'a>
     ensures { rule_of result ≡ record (new_rule name.entry.now) {
       action = Some Set;
@@ -361,7 +361,8 @@ pub fn name<'a>(alloc: Global, name: &'a str, help: &'a str) -> Arg<'a>
         .help(help)
 }
 
-/// An option whose value is the next argument, whatever it is, such as `--table NAME`.
+/// Returns an option whose value is the next argument, such as `--table NAME`. The value may begin with a
+/// hyphen.
 pub fn text<'a>(alloc: Global, name: &'a str, value: &'a str, help: &'a str) -> Arg<'a>
     ensures { rule_of result ≡ record (new_rule name.entry.now) {
       long = Some name.entry.now;
@@ -378,7 +379,8 @@ pub fn text<'a>(alloc: Global, name: &'a str, value: &'a str, help: &'a str) -> 
         .help(help)
 }
 
-/// An option whose values are the next two arguments, whatever they are, such as `--wait REPLICAS MS`.
+/// Returns an option whose values are the next two arguments, such as `--wait REPLICAS MS`. The values may
+/// begin with hyphens.
 pub fn pair<'a>(alloc: Global, name: &'a str, values: &'a [&'a str], help: &'a str) -> Arg<'a>
     ensures { rule_of result ≡ record (new_rule name.entry.now) {
       long = Some name.entry.now;

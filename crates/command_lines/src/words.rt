@@ -4,7 +4,7 @@ ghost use Rattle.command_lines.specs.Words.{asks_help, is_given, is_help, is_opt
 
 use std::alloc::{AllocError, Global};
 
-/// How many values each option of a program has.
+/// The number of values of each option of a program.
 pub trait Arity {
     /// The number of values of an option.
     ghost number: { List ℕ → ℕ };

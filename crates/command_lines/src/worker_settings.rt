@@ -1,4 +1,4 @@
-//! The options that are common to the programs with a worker.
+//! The options that the programs with a worker have in common.
 ghost use Rattle.std.specs.Prelude.{◌≡◌, ◌<◌, ◌∷◌, ◌⊎◌, [], ℕ, List, IfErr, IfOk, IfSome, None, Some, codes, false, option_map, string_bytes};
 ghost use Rattle.clap.specs.Words.{found_of, kind_of, matched_of, new_rule, raw_values, rule_of};
 ghost use Rattle.clap.specs.declared.builder.ArgAction.TheVariants.{Set};
@@ -80,7 +80,7 @@ static DEAD_VALUES: [&str; 2] = ["TIMES", "STREAM"];
 
 const DEAD: &str = "--dead <TIMES> <STREAM>";
 
-/// The option `--dead TIMES STREAM`.
+/// Returns the option `--dead TIMES STREAM`.
 pub fn dead<'a>(alloc: Global, help: &'a str) -> Arg<'a>
     ensures { rule_of result ≡ record (new_rule (codes "dead")) {
       long = Some (codes "dead");
