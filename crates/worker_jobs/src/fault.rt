@@ -6,7 +6,7 @@ use std::alloc::{AllocError, AllocFailed};
 use std::io;
 use thiserror::Error;
 
-/// Why a child has no reply.
+/// Why a child sent no valid reply.
 #[derive(Debug, Drop, Error)]
 pub enum Fault {
     /// The line could not be written to the child.

@@ -34,7 +34,7 @@ pub struct Jobs<R: SteadyRead + Drop, W: SteadyWrite + Drop> {
     stream: String,
     replies: R,
     lines: W,
-    /// The last reply; its buffer is reused for the next one.
+    /// The last reply. Its buffer is reused for the next reply.
     reply: Vec<u8>,
     /// Whether the handler returned `Stop`, and sends no more lines.
     over: bool,
@@ -44,7 +44,7 @@ pub struct Jobs<R: SteadyRead + Drop, W: SteadyWrite + Drop> {
     pub done: u64,
     pub committed: u64,
     pub left: u64,
-    /// The error of the child; `None` if its reply was `stop`.
+    /// The error of the child. `None` if the child's reply was `stop`.
     pub fault: Option<Fault>,
     /// The id of the entry at which the handler stopped, if there was memory to keep it.
     pub undone: Option<String>,

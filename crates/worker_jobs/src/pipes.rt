@@ -10,7 +10,7 @@ use std::alloc::Global;
 use std::fs::File;
 use std::io::{self, BufReader, ErrorKind, Read, Write};
 
-/// The most bytes in a reply, without its line end.
+/// The largest number of bytes in a reply, without its line end.
 pub const LONGEST: usize = 65_536;
 
 /// A writer whose content is always known, or never known.
