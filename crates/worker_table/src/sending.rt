@@ -139,8 +139,8 @@ fn send_each<T: WithOutbox, R: Read + Drop, W: Write + Drop>(
     Err(TableError::Refused("too many posts"))
 }
 
-/// Returns the stream that the command of a post adds to. It is read from the post's query `XRANGE target id
-/// id`. Returns `None` if the query has another form, or if memory runs out.
+/// Returns the stream that the command of a post adds to, read from the query of the post. Returns `None`
+/// unless the query is `XRANGE target id id` with the id of the post, or if memory runs out.
 pub fn target_of(alloc: Global, post: &Post) -> Option<String>
     ensures { IfSome result (λ target. (id : List ℕ) × ((post_of post.now).question
         ≡ command_bytes (look_words (string_bytes target) id))) }

@@ -10,7 +10,7 @@ use Rattle.worker_table.specs.declared.row_table.row.Row.{Row}
 abbrev pub post_of : Post → posts.Post
 post_of p = record { key = (p.first, p.second); command = p.command.items; question = p.question.items }
 
--- the row, its command and the query for it
+-- the row, its command and its query
 abbrev pub posted_of : PostedRow → posts.Posted
 posted_of p = (row_of p.row, (p.command.items, p.question.items))
 

@@ -60,7 +60,7 @@ abbrev pub without : Key → List Post → List Post
 without k [] = []
 without k (p ∷ ps) = if same_key p.key k then without k ps else p ∷ without k ps
 
--- the contents without the post of this key
+-- the contents without the post with the key `k`
 abbrev pub without_post : Stored → Key → Stored
 without_post s k = record { rows = s.rows; posts = without k s.posts }
 

@@ -53,7 +53,7 @@ impl MemoryTable {
         self.rows.iter().find(|there| there.first == row.first && there.second == row.second)
     }
 
-    /// Checks that a transaction is open.
+    /// Returns an error unless a transaction is open.
     fn check_open(&self) -> Result<(), TableError>
         ensures { OnOk result (self.now.is_open ≡ true) }
     {

@@ -55,7 +55,7 @@ fn put_posted_and_commit<T: WithOutbox>(
     table.commit()
 }
 
-/// Inserts rows and their posts, one after the other.
+/// Inserts rows and their posts one by one.
 fn put_each_posted<T: WithOutbox>(
     alloc: Global,
     table: &mut T,

@@ -16,7 +16,7 @@ use std::alloc::Global;
 #[derive(Drop)]
 pub struct MemoryOutbox {
     table: MemoryTable,
-    /// The posts as the open transaction has them.
+    /// The posts in the open transaction.
     posts: Vec<Post>,
     /// The posts of the last commit.
     committed: Vec<Post>,
@@ -60,7 +60,7 @@ impl WithOutbox for MemoryOutbox {
 
     ghost is_open = { λ o. Some o.table.is_open };
 
-    /// Begins a transaction. It is an error if another one is open.
+    /// Begins a transaction. Returns an error if another transaction is open.
     fn begin(&mut self) -> Result<(), TableError> {
         let posts = self.committed.clone()?;
         self.table.begin()?;
