@@ -11,20 +11,20 @@ use Rattle.redis_streams.specs.InfoRefusal.{RefusesGroups}
 use Rattle.stream_drain.specs.declared.backlog.Backlog.{Backlog}
 use Rattle.stream_drain.specs.declared.backlog.Watched.{Watched}
 
--- the backlog of this group
+-- the backlog of the group `g`
 abbrev pub left_to : Group → Backlog
 left_to g = record { lag = g.lag; pending = g.pending }
 
--- the backlog of the first group of this name, if there is one
+-- the backlog of the first group called `name`, or `None` if there is no such group
 abbrev pub left_in : List ℕ → List Group → Option Backlog
 left_in name groups = option_map left_to (find (λ g. bytes_eq g.name name) groups)
 
--- the command for the groups of the watched stream
+-- the command `XINFO GROUPS` for the watched stream
 abbrev pub groups_asked : Watched → List (List ℕ)
 groups_asked w = codes "XINFO" ∷ codes "GROUPS" ∷ string_bytes w.key ∷ []
 
--- if no group is watched, no command is sent; else that command is sent, and this is the backlog in its reply, or the
--- error
+-- If no group is watched, no command is sent, and the result is `None`. Otherwise `XINFO GROUPS` is sent. The
+-- result is the backlog in its reply, or the error.
 abbrev pub Hears : Option Watched → Link → Link → Result (Option Backlog) AskError → Type 0
 Hears None old new heard = (heard ≡ Ok None) × (new ≡ old)
 Hears (Some w) old new (Ok backlog) = (groups : List Group)

@@ -15,35 +15,35 @@ use Rattle.model_workers.specs.Loops.Loop.{Drains}
 use Rattle.stream_drain.specs.Known.{Known, is_known, lines_for}
 use Rattle.stream_drain.specs.Written.{Beginning, Written, committed_with, lines_in, written_of}
 
--- after any crash the file begins with its first content and the lines of these entries, in order; and each of them is
--- a line of it
+-- After any crash the file begins with its first content, followed by the lines of the entries `es` in order.
+-- Each entry has a line in the file.
 pub record AreFiled (json : Bool) (first : List ℕ) (es : List Entry) (may_leave : List ℕ → Type 0) : Type 0 where
   pub in_order : EachStartsWith (first ++ lines_in json es) may_leave
   pub each : (e : Entry) → Among e es → (c : List ℕ) → may_leave c → HasLine (line_in json e) c
 
--- a handler begins with these bytes in its file
+-- the start of a handler whose file has the content `first`
 abbrev pub with_bytes : Bool → Known → List ℕ → Beginning
 with_bytes json known first = record { json = json; known = known; first = Some first }
 
--- the rounds lead to this state, after whole lines, and at the end the line of each entry that was committed, and had
--- none, is in the file after any crash
+-- The rounds lead to this state of the worker, if the first content of the file consists of complete lines. At
+-- the end each committed entry that had no line before has one, after any crash.
 abbrev pub FiledFrom : Settings → Link → Link → Standing Written → Standing Written → (List ℕ → Type 0) → Type 0
 FiledFrom settings old new w x may_leave = (json : Bool) (known : Known) (first : List ℕ) (d : Doings) → AreLines first
     → w.history ≡ written_of (with_bytes json known first) d
     → (l : LeadsSo (Drains settings) old new w x (with_bytes json known first) d)
     × AreFiled json first (lines_for known l.doings.committed) may_leave
 
--- an entry of this id is a line of the file after a crash
+-- the file `c` has a line of an entry with this id
 abbrev pub IsFiled : Bool → Id → List ℕ → Type 0
 IsFiled json id c = (fields : Pairs) × HasLine (line_in json (id, fields)) c
 
--- the same for each known id
+-- the file `c` has a line of an entry with each known id
 abbrev pub AreThere : Bool → Known → List ℕ → Type 0
 AreThere json known c = (id : Id) → is_known known id ≡ true → IsFiled json id c
 
--- the law: before a worker acknowledges an id, its entry is a line of any file that a crash can leave, which begins
--- with the lines committed then; or the server reported that it was deleted. With `--look-up` the ids known at first
--- are in the file
+-- the law: Before a worker acknowledges an id, its entry has a line in any file that a crash can leave.
+-- Otherwise the server reported that the entry was deleted. Such a file begins with the lines committed at that
+-- time. With `--look-up` the ids known at first are in the file.
 abbrev pub AcknowledgedIsFiled : Type 0
 AcknowledgedIsFiled = (settings : Settings) (json : Bool) (known : Known) (first : List ℕ) (w : Standing Written)
     (deleted : List Id) (c : List ℕ) → AreLines first → AreThere json known first

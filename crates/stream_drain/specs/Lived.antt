@@ -1,4 +1,4 @@
--- The rounds of a worker whose handler writes lines, as rounds of its life.
+-- The rounds of a worker whose handler writes lines, as rounds of a worker's life.
 use Rattle.std.specs.Prelude.{◌≡◌, List, [], ◌++◌}
 use Rattle.redis_connection.specs.Link.{Link}
 use Rattle.model_server.specs.Group.Worker.{Id, start}
@@ -16,14 +16,14 @@ use Rattle.worker.specs.declared.state.Settings.{Settings}
 use Rattle.worker.specs.declared.worker.Progress.TheVariants.{GoesOn, Stopped}
 use Rattle.stream_drain.specs.Written.{Beginning, Written, committed_with, written_of, written_too}
 
--- a state of its life, with these ids of deleted entries, if its handler did entries whose lines are the gathered ones,
--- and the ones committed after the first content of the file
+-- `w` is a state in a worker's life, and `deleted` are the ids reported as deleted. The handler did `doings`.
+-- Its gathered and committed lines are those of `doings`, after the first content of the file.
 pub record LivesSo (settings : Settings) (first : Beginning) (w : Standing Written) (deleted : List Id) : Type 0 where
   pub doings : Doings
   pub lives : Lives settings (with_doings w doings) deleted
   pub written : w.history ≡ written_of first doings
 
--- a new worker, whose handler has gathered nothing, with this in its file
+-- a new worker, whose handler has gathered nothing, and whose file has the first content
 abbrev pub newborn_with : Settings → Beginning → Standing Written
 newborn_with settings first = record {
   machine = start settings.every;
@@ -32,16 +32,16 @@ newborn_with settings first = record {
   history = record { json = first.json; known = first.known; loose = []; committed = first.first };
 }
 
--- if the written lines are those of these doings, this way leads to the lines of more doings
+-- if the lines match the history `d` before the rounds, they match a longer history after them
 abbrev pub LeadsSo : Way → Link → Link → Standing Written → Standing Written → Beginning → Doings → Type 0
 LeadsSo way old new w x first d = loops.LeadsSo written_of way old new w x first d
 
--- the same, whatever was in the file first and was done since
+-- `LeadsSo` holds for every first content of the file and every history
 abbrev pub Leads : Way → Link → Link → Standing Written → Standing Written → Type 0
 Leads way old new w x = loops.Leads written_of way old new w x
 
--- the law: a worker begins in such a state; each round is such a way; and from a state of its life such rounds lead to
--- one, with exactly the deleted entries that the replies of these rounds report
+-- the law: A new worker satisfies `LivesSo`. Each round leads to a longer history. A worker's life continues
+-- after such rounds, and the deleted ids grow by exactly those that the replies in the rounds reported.
 pub record RoundsAreLived : Type 0 where
   pub begins : (settings : Settings) (first : Beginning) → LivesSo settings first (newborn_with settings first) []
   pub goes_on : (settings : Settings) (old new : Link) (w x : Standing Written) (asked : Asked)

@@ -1,4 +1,4 @@
--- No id is twice in the file of a worker with `--look-up`, whatever the server delivers.
+-- No id occurs twice in the file of a worker with `--look-up`, whatever the server delivers.
 use Rattle.std.specs.Prelude.{◌≡◌, ℕ, List, [], Bool, Some}
 use Rattle.worker_journal.specs.EntryLine.{Entry}
 use Rattle.worker_journal.specs.Holds.{with_more}
@@ -19,14 +19,16 @@ use Rattle.worker.specs.declared.worker.Progress.{Progress}
 use Rattle.stream_drain.specs.Resumed.{BeginsWithLast, KnowsItsFile, ids_in}
 use Rattle.stream_drain.specs.Written.{Written, committed_with, lines_in, written_too}
 
--- nothing is gathered over a file that is the lines of these entries, whose ids are known
+-- the state of a handler that has gathered nothing, and whose file consists of the lines of the entries `es`.
+-- The ids of `es` are known.
 abbrev pub over_file : Bool → List Entry → Written
 over_file json es =
     record { json = json; known = Some (listed (ids_in es)); loose = []; committed = Some (lines_in json es) }
 
--- the states of a worker with `--look-up`. At first its file is the lines of entries, and no id is there twice. In each
--- round it takes any reply, or the round fails. At any time it may end or crash: then its file has the committed lines
--- and the first ones of the gathered lines, and another worker is started over it
+-- The states of a worker with `--look-up`. At first the file consists of lines of entries, and no id occurs
+-- twice. In each round the worker receives any reply, or the round fails. The worker may end or crash at any
+-- time. This leaves a file with the committed lines, followed by a prefix of the gathered lines. Then another
+-- worker starts over this file.
 pub data Reaches (json : Bool) : Standing Written → Type 0 where
   begins : (es : List Entry) (w : Standing Written) → Once (ids_in es) → w.history ≡ over_file json es → Reaches json w
   turns : (settings : Settings) (w x : Standing Written) (old new : Link) (q : Asked) (p : Progress) → Reaches json w
@@ -38,23 +40,24 @@ pub data Reaches (json : Bool) : Standing Written → Type 0 where
       → with_more (lines_in json kept) w.history.committed ≡ Some (lines_in json es) → x.history ≡ over_file json es
       → Reaches json x
 
--- the committed text is the lines of entries, and no id is there twice
+-- the committed text consists of the lines of entries, and no id occurs twice
 pub record HasEachOnce (json : Bool) (w : Standing Written) : Type 0 where
   pub es : List Entry
   pub committed : w.history.committed ≡ Some (lines_in json es)
   pub once : Once (ids_in es)
 
--- the law
+-- the law: no id occurs twice in the file of any worker that `Reaches` describes
 abbrev pub NoIdIsTwice : Type 0
 NoIdIsTwice = (json : Bool) (w : Standing Written) → Reaches json w → HasEachOnce json w
 
--- the law: a worker that begins over the lines of entries, whose ids are known, begins in such a state
+-- the law: a worker over a file with the lines of entries, whose ids are known, starts in the state `over_file`
 abbrev pub StartsLookingUp : Type 0
 StartsLookingUp = (number : ℕ) (settings : Settings) (json : Bool) (known : Id → Bool) (es : List Entry) (w : Standing Written)
     → KnowsItsFile json (lines_in json es) (Some known)
     → BeginsWithLast number settings json (Some known) (lines_in json es) w → w.history ≡ over_file json es
 
--- the state of a handler that gathered the lines of this consumer of `model_server::failover`, over its file
+-- the state of a handler that has the gathered lines and the file of the consumer `c` of
+-- `model_server::failover`
 abbrev pub written_as : Bool → Consumer Pairs → Written
 written_as json c = record {
   json = json;
@@ -63,8 +66,8 @@ written_as json c = record {
   committed = Some (lines_in json c.file);
 }
 
--- the law: the entries of a reply, a commit, and a crash with the start after it change the handler's lines as they
--- change the consumer of `model_server::failover`
+-- the law: the handler's lines and the consumer of `model_server::failover` change in the same manner. This
+-- holds for the entries of a reply, for a commit, and for a crash followed by a start.
 pub record LooksUpAsTheModel : Type 0 where
   pub reply : (json : Bool) (c : Consumer Pairs) (a : Answer Pairs) (verdicts : List Verdict)
       → with_all written_too (written_as json c) (told_in (entries_in a) verdicts)

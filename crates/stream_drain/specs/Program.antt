@@ -1,4 +1,4 @@
--- A run of the program, by its options and by its words.
+-- A run of the program, in terms of its options and of its arguments.
 use Rattle.std.specs.Prelude.{◌≡◌, [], ℕ, List, Option, None, Some, IfSome, IsTrue, is_some, max, string_bytes, true}
 use Rattle.redis_connection.specs.Link.{Link}
 use Rattle.redis_connection.specs.declared.wait.Wait.{Wait}
@@ -18,13 +18,14 @@ use Rattle.stream_drain.specs.declared.options.Options.{Options}
 use Rattle.stream_drain.specs.Turn.{EachIsConfirmed}
 use Rattle.stream_drain.specs.Written.{Written}
 
--- the settings of the worker: with `--dead` it requests entries that were delivered before one at a time
+-- the settings of the worker: with `--dead` it requests redelivered entries one at a time
 abbrev pub settings_with : Option GiveUp → Settings → Settings
 settings_with None settings = settings
 settings_with (Some to) settings = record settings { one_at_a_time = true }
 
--- the search for dead letters: it gives up entries of this worker, from this delivery count on, and their letters go to
--- this stream. It is made after as many reads as the worker makes between its claims, and after one at least
+-- The search for dead letters. It gives up entries with at least `to.deliveries` deliveries, and sends their
+-- letters to `to.stream`. It is made after as many reads as the worker makes between its claims, but after at
+-- least one.
 abbrev pub searcher_by : Settings → GiveUp → Searcher
 searcher_by settings to = record {
   claimer = record {
@@ -38,54 +39,54 @@ searcher_by settings to = record {
   every = max settings.every 1;
 }
 
--- the search that is due after a command, over a connection
+-- the search that is due after the command `asked` was made over the connection
 abbrev pub SearchesAfter : DeadLetterSearch → Asked → Link → Link → Type 0
 SearchesAfter d asked old new =
     (reads : ℕ) × IsCounted d.reads asked reads × IsSearched (searcher_of d) d.begun reads old new
 
--- a worker with these settings, whose handler began with these lines, went this way over the connection
+-- a worker with these settings, whose handler began with `lines`, made the rounds of `way` over the connection
 pub record IsRun (settings : Settings) (way : Settings → Way) (lines : Written) (old new : Link) : Type 0 where
   pub first : Standing Written
   pub last : Standing Written
   pub begins : first.history ≡ lines
   pub went : Leads (way settings) old new first last
 
--- it made rounds and no more, and if a WAIT is given, each of them was confirmed
+-- The run ended after complete rounds. If `WAIT` is used, each round was confirmed.
 pub record EndsSo (settings : Settings) (wait : Option Wait) (lines : Written) (old new : Link) : Type 0 where
   pub run : IsRun settings Loops lines old new
   pub confirmed : IfSome wait (λ one. EachIsConfirmed settings one old new run.first run.last)
 
--- the bytes of a file, if they are known, begin with what is committed
+-- the bytes of a file begin with the committed text, if both are known
 abbrev pub BeginsFile : Option Text → Option Text → Type 0
 BeginsFile file committed = IfSome file (λ bytes. IfSome committed (λ lines. StartsWith lines bytes))
 
--- the lines that a handler has first: the file of FILE begins with the committed ones, and none is gathered
+-- The handler's first lines. FILE begins with the committed lines, and no lines are gathered.
 pub record StartsIn (content : Text → Option Text) (o : Options) (lines : Written) : Type 0 where
   pub file : BeginsFile (content (string_bytes o.path)) lines.committed
   pub json : lines.json ≡ o.json
   pub look_up : is_some lines.known ≡ o.look_up
   pub none : lines.loose ≡ []
 
--- the loop ended as these options ask
+-- `--until-empty` is given, and the loop ended after complete rounds
 pub record EndsBy (content : Text → Option Text) (o : Options) (old new : Link) : Type 0 where
   pub lines : Written
   pub starts : StartsIn content o lines
   pub asked : IsTrue o.until_empty
   pub ends : EndsSo (settings_with o.dead o.settings) o.wait lines old new
 
--- rounds were made by these options
+-- a worker with these options made rounds over the connection
 pub record RunsBy (content : Text → Option Text) (o : Options) (old new : Link) : Type 0 where
   pub lines : Written
   pub starts : StartsIn content o lines
   pub ran : IsRun (settings_with o.dead o.settings) Drains lines old new
 
--- the words say options, and the loop ended as these ask
+-- the arguments specify options, and the loop ended as in `EndsBy`
 pub record EndsAsSaid (content : Text → Option Text) (words : List Text) (old new : Link) : Type 0 where
   pub options : Options
   pub said : AreOptionsOf words options
   pub ends : EndsBy content options old new
 
--- the words say options, and rounds were made by these
+-- the arguments specify options, and rounds were made as in `RunsBy`
 pub record RunsAsSaid (content : Text → Option Text) (words : List Text) (old new : Link) : Type 0 where
   pub options : Options
   pub said : AreOptionsOf words options

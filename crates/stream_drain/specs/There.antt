@@ -15,82 +15,84 @@ use Rattle.stream_drain.specs.declared.lines.Fault.TheVariants.{Log, NotAnId, Ot
 use Rattle.stream_drain.specs.declared.there.There.{There}
 use Rattle.stream_drain.specs.declared.there.There.TheVariants.{Same, Other, Neither}
 
--- a line ends here
+-- whether the text begins with a line end
 abbrev pub ends : List ℕ → Bool
 ends [] = false
 ends (b ∷ rest) = b == 10
 
--- a tab is here, or a line ends
+-- whether the text begins with a tab or a line end
 abbrev pub ends_text : List ℕ → Bool
 ends_text [] = false
 ends_text (b ∷ rest) = (b == 9) || (b == 10)
 
--- the text begins with this line and its line end
+-- whether the text begins with `line` and a line end
 abbrev pub has_line : List ℕ → List ℕ → Bool
 has_line line text = begins line text && ends (drop (length line) text)
 
--- the text begins as a line of this id does: JSON, or text with tabs
+-- whether the text begins like a line with this id, as JSON or as text with tabs
 abbrev pub has_id : Bool → Id → List ℕ → Bool
 has_id true id text = begins (codes "{\"id\":\"") text
     && (begins id (drop 7 text) && begins (codes "\",\"fields\":[") (drop (length id) (drop 7 text)))
 has_id false id text = begins id text && ends_text (drop (length id) text)
 
--- the line of this id, another one of the id, or neither
+-- `Same` if the text begins with `line`, `Other` if it begins like another line with this id, and else
+-- `Neither`
 abbrev pub found_in : Bool → Id → List ℕ → Option (List ℕ) → There
 found_in json id line None = Neither
 found_in json id line (Some text) = if has_line line text then Same else if has_id json id text then Other else Neither
 
--- the text at an offset, if a line begins there: at the first byte, or after the end of another line
+-- the text at an offset, if a line begins there: at the first byte, or after a line end
 abbrev pub begun : ℕ → List ℕ → Option (List ℕ)
 begun zero bytes = Some bytes
 begun (suc k) [] = None
 begun (suc k) (b ∷ rest) = if b == 10 then Some rest else None
 
--- what these bytes have at this offset
+-- what the file `bytes` has at the offset `at`
 abbrev pub there : Bool → Id → List ℕ → List ℕ → ℕ → There
 there json id line bytes at = found_in json id line (begun at (drop (at - 1) bytes))
 
--- of the committed text and the gathered text after it, if the file is known, and no shorter than it was
+-- `P` holds for the committed text followed by the gathered text, if the file is known and not shorter than
+-- before
 abbrev pub OfAll : Option (List ℕ) → ℕ → List ℕ → (List ℕ → Type 0) → Type 0
 OfAll committed len batch P = IfSome committed (λ bytes. len ≡ length bytes → P (bytes ++ batch))
 
--- this is at the known offset of an entry's line
+-- the known offset of the entry `e` has `found`
 abbrev pub Stands : There → Bool → Entry → List Place → List ℕ → Type 0
 Stands found json e places bytes = (n at : ℕ) × (number_of e.0 ≡ Some n) × (has_at places n at ≡ true)
     × (there json e.0 (line_in json e) bytes at ≡ found)
 
--- what is found there if an entry is not done for this fault
+-- what the file has at the known offset if an entry is not done because of this fault
 abbrev pub Finds : Fault → There → Type 0
 Finds (Log error) found = Unit {0}
 Finds NotAnId found = ⊥
 Finds OtherFields found = found ≡ Other
 Finds Changed found = found ≡ Neither
 
--- why an entry was not done
+-- why the entry `e` was not done
 abbrev pub Says : Fault → Bool → Entry → List Place → List ℕ → Type 0
 Says (Log error) json e places bytes = Unit {0}
 Says NotAnId json e places bytes = number_of e.0 ≡ None
 Says OtherFields json e places bytes = Stands Other json e places bytes
 Says Changed json e places bytes = Stands Neither json e places bytes
 
--- the log failed
+-- the fault is an error of the log
 abbrev pub IsOfLog : Fault → Type 0
 IsOfLog (Log error) = Unit {0}
 IsOfLog NotAnId = ⊥
 IsOfLog OtherFields = ⊥
 IsOfLog Changed = ⊥
 
--- why an entry was not done, with `--look-up` and without
+-- why the entry `e` was not done, with or without `--look-up`
 abbrev pub Explains : Fault → Bool → Entry → Option KnownIds → Option (List ℕ) → List ℕ → Type 0
 Explains fault json e None committed batch = IsOfLog fault
 Explains fault json e (Some ids) committed batch =
     IfSome committed (λ bytes. Says fault json e (places_in ids.ids.items) (bytes ++ batch))
 
--- the line of an entry is one of those that are committed and gathered
+-- the committed text followed by the gathered text has the line of the entry `e`
 abbrev pub HasItsLine : Bool → Entry → Option (List ℕ) → List ℕ → Type 0
 HasItsLine json e committed batch = IfSome committed (λ bytes. HasLine (line_in json e) (bytes ++ batch))
 
--- the offsets of the known ids: exactly those of the lines of the file
+-- the known ids and offsets are exactly those of the lines of the file
 abbrev pub KnowsPlaces : Bool → List ℕ → Option KnownIds → Type 0
 KnowsPlaces json bytes None = Unit {0}
 KnowsPlaces json bytes (Some ids) = IfSome (told json 0 (lines_of bytes))

@@ -18,13 +18,14 @@ pub struct Watched {
 /// The backlog of a group.
 #[derive(Clone, Copy)]
 pub struct Backlog {
-    /// How many entries were not delivered yet, the group's `lag`; `None` if the server returns nil.
+    /// The number of entries not delivered yet, the group's `lag`. `None` if the server returns nil.
     lag: Option<usize>,
-    /// How many entries are pending for all of its consumers.
+    /// The number of entries pending for all consumers of the group.
     pending: usize,
 }
 
-/// The backlog of the first group of this name in a reply of XINFO GROUPS; `None` if there is no such group.
+/// Returns the backlog of the first group called `name` in a reply of `XINFO GROUPS`, or `None` if there is no
+/// such group.
 pub fn backlog_in(reply: &StreamInfoGroupsReply, name: &str) -> Option<Backlog>
     ensures { result ≡ left_in name.now (groups_meaning reply.now) }
 {
@@ -36,7 +37,7 @@ pub fn backlog_in(reply: &StreamInfoGroupsReply, name: &str) -> Option<Backlog>
     None
 }
 
-/// The backlog of a group in a reply of XINFO GROUPS.
+/// Returns the backlog of a group in a reply of `XINFO GROUPS`.
 fn read_backlog(group: &StreamInfoGroup) -> Backlog
     ensures { result ≡ left_to (group_meaning group.now) }
 {

@@ -1,4 +1,4 @@
-//! The loop of the program: it sends commands and takes the replies.
+//! The loop of the program: it sends commands and receives the replies.
 ghost use Rattle.std.specs.Prelude.{◌≡◌, ◌≤◌, IfErr, IfOk, IfSome, IsTrue, OnErr, OnOk, false, option_map};
 ghost use Rattle.redis_connection.specs.Link.{Link};
 ghost use Rattle.worker.specs.Confirm.Confirmed.{IsConfirmedRound};
@@ -36,7 +36,7 @@ const LARGEST: &str = "1 GiB";
 /// The limit on the values of a reply, as in `Limits::default`.
 const MOST: &str = "16,777,216";
 
-/// How a drain ended: with a read that returned no new entries. Only `drain` makes one.
+/// Proof that a drain ended with a read that returned no new entries. Only `drain` creates one.
 #[derive(Clone, Copy)]
 pub struct Drained {
     /// The last turn.
@@ -46,13 +46,13 @@ pub struct Drained {
 /// A turn of the loop.
 #[derive(Clone, Copy)]
 struct TurnMade {
-    /// The command that was sent last in it.
+    /// The last command that was sent in the turn.
     asked: Asked,
-    /// How many entries the handler had seen before it.
+    /// The number of entries that the handler had received before the turn.
     before: u64,
 }
 
-/// Drains until something fails, or, with `until_empty`, until a read returns no new entries.
+/// Drains until an error occurs. With `until_empty`, also ends when a read returns no new entries.
 pub fn drain<R: Read + Drop, W: Write + Drop, D: LogFile + Drop, T: Clock + Eprint + AllocGlobal>(
     rt: &T,
     connection: &mut Connection<R, W>,
@@ -93,7 +93,7 @@ pub fn drain<R: Read + Drop, W: Write + Drop, D: LogFile + Drop, T: Clock + Epri
     Err(anyhow!("the last turn came").into())
 }
 
-/// Searches for entries to give up, makes a round, or two in one write, and counts.
+/// Makes one turn: searches for entries to give up, makes one round or two rounds in one write, and counts.
 fn turn<R: Read + Drop, W: Write + Drop, D: LogFile + Drop, T: Clock + Eprint + AllocGlobal>(
     rt: &T,
     connection: &mut Connection<R, W>,
@@ -136,7 +136,7 @@ fn turn<R: Read + Drop, W: Write + Drop, D: LogFile + Drop, T: Clock + Eprint + 
     })
 }
 
-/// Searches for entries that were delivered too often, if they are given up.
+/// Searches for entries that were delivered too often, if a search is given.
 fn look<R: Read + Drop, W: Write + Drop, D: LogFile + Drop>(
     alloc: Global,
     connection: &mut Connection<R, W>,
@@ -159,7 +159,7 @@ fn look<R: Read + Drop, W: Write + Drop, D: LogFile + Drop>(
     }
 }
 
-/// Makes a round, confirmed by replicas if `--wait` is given, after which the worker goes on.
+/// Makes a round after which the worker goes on. With `--wait`, replicas confirm the round.
 fn make_any_round<R: Read + Drop, W: Write + Drop, D: LogFile + Drop>(
     alloc: Global,
     connection: &mut Connection<R, W>,
@@ -189,7 +189,7 @@ fn make_any_round<R: Read + Drop, W: Write + Drop, D: LogFile + Drop>(
     }
 }
 
-/// Makes a round that replicas confirm before its entries are handled, after which the worker goes on.
+/// Makes a round after which the worker goes on. Replicas confirm the round before its entries are handled.
 fn confirmed<R: Read + Drop, W: Write + Drop, D: LogFile + Drop>(
     alloc: Global,
     connection: &mut Connection<R, W>,
@@ -220,7 +220,7 @@ fn confirmed<R: Read + Drop, W: Write + Drop, D: LogFile + Drop>(
     }
 }
 
-/// The failure of a confirmed round.
+/// Returns the failure of a confirmed round.
 fn explain_unconfirmed(error: RoundError, fault: &Option<Fault>) -> Failure {
     match error {
         RoundError::Run(error) => convert_run_error(error, fault),
@@ -228,9 +228,11 @@ fn explain_unconfirmed(error: RoundError, fault: &Option<Fault>) -> Failure {
     }
 }
 
-/// Makes a round, or two in one write if that is allowed, after which the worker goes on.
+/// Makes a round after which the worker goes on. If `together` is true, makes two rounds in one write where
+/// possible.
 ///
-/// It is not allowed if entries are given up: these are searched for between an acknowledgement and a claim.
+/// If entries are given up, `together` must be false, since the search for them is between an acknowledgement
+/// and a claim.
 fn round<R: Read + Drop, W: Write + Drop, D: LogFile + Drop>(
     alloc: Global,
     connection: &mut Connection<R, W>,
@@ -266,7 +268,7 @@ fn round<R: Read + Drop, W: Write + Drop, D: LogFile + Drop>(
     }
 }
 
-/// A round with a write of its own, as a `Pipelined`.
+/// Converts a round with a write of its own to a `Pipelined`.
 fn make_single(round: Round) -> Pipelined
     ensures { result ≡ record { acknowledged = false; round = round } }
 {
@@ -291,7 +293,7 @@ fn goes_on(
     }
 }
 
-/// Counts the entries in the file, and shows the counts once a second.
+/// Counts the entries in the file if a count is due, and shows the counts at most once a second.
 fn count<R: Read + Drop, W: Write + Drop, T: Clock + Eprint + AllocGlobal>(
     rt: &T,
     connection: &mut Connection<R, W>,
@@ -312,8 +314,8 @@ fn count<R: Read + Drop, W: Write + Drop, T: Clock + Eprint + AllocGlobal>(
     }
 }
 
-/// Shows the counts, and the backlog of the group if it is watched. If the server does not return the backlog, the
-/// program shows the error, and goes on without it.
+/// Shows the counts, and the backlog of the watched group. If the server does not return the backlog, shows the
+/// error and stops watching the group.
 fn show<R: Read + Drop, W: Write + Drop, T: Eprint + AllocGlobal>(
     rt: &T,
     connection: &mut Connection<R, W>,
@@ -341,7 +343,7 @@ fn show<R: Read + Drop, W: Write + Drop, T: Eprint + AllocGlobal>(
     }
 }
 
-/// Shows the counts, and this text after them.
+/// Shows the counts, followed by `more`.
 fn say<T: Eprint, M: fmt::Display>(rt: &T, report: &Report, more: &M) -> Result<(), Failure> {
     Ok(written(rt, report, more)?)
 }
@@ -351,8 +353,8 @@ fn written<T: Eprint, M: fmt::Display>(rt: &T, report: &Report, more: &M) -> Any
     Ok(())
 }
 
-/// Reads the backlog of the watched group from the server; `None` if no group is watched, or the server has no such
-/// group.
+/// Reads the backlog of the watched group from the server. Returns `None` if no group is watched, or if the
+/// server has no such group.
 fn find_backlog<R: Read + Drop, W: Write + Drop>(
     alloc: Global,
     connection: &mut Connection<R, W>,
@@ -372,7 +374,7 @@ fn find_backlog<R: Read + Drop, W: Write + Drop>(
     }
 }
 
-/// The failure of a round.
+/// Returns the failure of a round.
 fn convert_run_error(error: RunError, fault: &Option<Fault>) -> Failure {
     match error {
         RunError::Request(RequestError::NotCommitted) => describe_commit_error(fault).into(),
@@ -392,7 +394,7 @@ fn convert_run_error(error: RunError, fault: &Option<Fault>) -> Failure {
     }
 }
 
-/// The error of a commit.
+/// Returns the error of a commit.
 fn describe_commit_error(fault: &Option<Fault>) -> Error {
     match fault {
         Some(reason) => anyhow!("cannot write the file: {reason}"),
@@ -400,7 +402,7 @@ fn describe_commit_error(fault: &Option<Fault>) -> Error {
     }
 }
 
-/// The error of an entry that was not done, with its id if it is known.
+/// Returns the error of an entry that was not done, with the entry's id if it is known.
 fn describe_stop(fault: &Option<Fault>, undone: &Option<String>) -> Error {
     match (fault, undone) {
         (Some(reason), Some(id)) => anyhow!("cannot write the line of the entry {id}: {reason}"),

@@ -8,13 +8,13 @@ use worker::dead_letters::SearchError;
 /// Why the program failed.
 #[derive(Debug, Drop, AnError)]
 pub enum Failure {
-    /// A round broke off.
+    /// A round failed.
     #[error("{0}")]
     Round(RunError),
     /// Fewer replicas than required confirmed a round.
     #[error("{0}")]
     Unconfirmed(ConfirmError),
-    /// The search for dead letters broke off.
+    /// The search for dead letters failed.
     #[error("{0}")]
     Search(SearchError),
     /// The backlog of the group could not be read.

@@ -11,8 +11,8 @@ use std::alloc::{AllocError, Global};
 use worker::EntryRef;
 use worker::entry_json::push_fields;
 
-/// The line of an entry: `{"id":"1-0","fields":[["name","value"],..]}`, where a name or a value that
-/// is not UTF-8 is `{"base64":"..."}`.
+/// Returns the line of an entry: `{"id":"1-0","fields":[["name","value"],..]}`. A name or a value that is not
+/// UTF-8 is written as `{"base64":"..."}`.
 pub fn json_line(alloc: Global, entry: &EntryRef<'_>) -> Result<Vec<u8>, AllocError>
     ensures line { IfOk result (λ line. line.items ≡ print (entry_tokens (pair_of entry.now))) }
     ensures one_line { IfOk result (λ line. AllByRecursion (λ b. b ≢ 10) line.items) }
@@ -32,7 +32,7 @@ fn push_entry(alloc: Global, out: &mut Writer, entry: &EntryRef<'_>) -> Result<(
     out.end_object()
 }
 
-/// Writes the beginning of an entry: its id, and the key of its fields.
+/// Writes the beginning of an entry: the id, and the key of the fields.
 fn begin(out: &mut Writer, id: &str) -> Result<(), AllocError>
     ensures before { out.new.before ≡ out.old.before }
     ensures tokens { OnOk result (out.new.tokens ≡ out.old.tokens ++ begin_tokens id.now) }

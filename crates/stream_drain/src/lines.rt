@@ -35,13 +35,13 @@ pub enum Fault {
     /// The log failed, or memory ran out.
     #[error("{0}")]
     Log(LogError),
-    /// Its id is not as servers write one, so it cannot be searched for in the file.
+    /// The entry's id is not two numbers, so it cannot be looked up in the file.
     #[error("its id is not two numbers")]
     NotAnId,
-    /// Its id is known, and the file has another line of this id at its offset.
+    /// The entry's id is known, and the file has another line with this id at the known offset.
     #[error("a line of its id is there with other fields")]
     OtherFields,
-    /// Its id is known, and the file has no line of this id at its offset.
+    /// The entry's id is known, and the file has no line with this id at the known offset.
     #[error("the file was changed")]
     Changed,
 }
@@ -52,24 +52,24 @@ pub struct Lines<D: LogFile + Drop> {
     log: LineLog<D>,
     /// Whether each line is JSON.
     json: bool,
-    /// With `--look-up`: the ids that have a line, gathered ones included.
+    /// With `--look-up`: the ids that have a line, including the gathered lines.
     known: Option<KnownIds>,
-    /// The line of the current entry; its buffer is reused for the next one.
+    /// The line of the current entry. Its buffer is reused for the next line.
     text: Vec<u8>,
-    /// How many entries it received, how many were done, and how many of them are committed.
+    /// The number of entries that the handler received, of those done, and of those committed.
     pub seen: u64,
     pub done: u64,
     pub committed: u64,
-    /// The error with which it stopped, or did not commit.
+    /// The error with which the handler stopped or did not commit.
     pub fault: Option<Fault>,
-    /// The id of the entry at which it stopped, if there was memory to keep it.
+    /// The id of the entry at which the handler stopped, if there was memory to keep it.
     pub undone: Option<String>,
     ghost held: { ∥ IsHeld D.seen D.may_leave D.is_sound log.file log.len log.is_broken ∥₁ },
 }
 
 impl<D: LogFile + Drop> Lines<D> {
-    /// Opens the log in this file, for lines of text with tabs or of JSON. The whole lines of the file are committed at
-    /// first. With `look_up` the file is read from its start; it is an error if one of its lines has no id.
+    /// Opens the log in `file`, for lines of JSON or of text with tabs. The complete lines of the file are
+    /// committed at first. With `look_up` the whole file is read, and a line without an id is an error.
     pub fn open(alloc: Global, file: D, json: bool, look_up: bool) -> Result<Lines<D>, FileError>
         requires { D.is_sound file }
         ensures new { IfOk result (λ lines. (lines.json ≡ json) × (lines.log.batch.items ≡ [])
@@ -98,8 +98,8 @@ impl<D: LogFile + Drop> Lines<D> {
         })
     }
 
-    /// The ids of the last `number` committed lines, in order; of all if there are fewer. It fails if one of these
-    /// lines has no id.
+    /// Returns the ids of the last `number` committed lines, in order, or of all lines if there are fewer. A
+    /// line without an id is an error.
     pub fn last_ids(&self, alloc: Global, number: usize) -> AnyResult<Vec<String>>
         ensures { IfOk result (λ ids. IfSome (committed_in (D.seen self.now.log.file) self.now.log.len)
             (λ bytes. TellEach self.now.json (last_of number (lines_of bytes)) (ids_of ids))) }
@@ -108,7 +108,7 @@ impl<D: LogFile + Drop> Lines<D> {
         ids_told(alloc, &lines, self.json)
     }
 
-    /// Adds the line of an entry to the log. If its id is known, the log must already have this line.
+    /// Adds the line of an entry to the log. If the entry's id is known, the log must already have this line.
     fn take(&mut self, alloc: Global, entry: &EntryRef<'_>) -> Result<(), Fault>
         ensures ok { OnOk result (⟦<Lines<D> as Handler>⟧.history self.new
             ≡ written_too (⟦<Lines<D> as Handler>⟧.history self.old) (pair_of entry.now) done) }
@@ -147,8 +147,8 @@ impl<D: LogFile + Drop> Handler for Lines<D> {
 
     ghost history = { λ h. written_by h.json (known_by h.known) h.log.batch.items (D.seen h.log.file) h.log.len };
 
-    /// Gathers the line of the entry, which is done then; if it cannot, the worker stops. If its id is known, the log
-    /// must already have this line, or the worker stops.
+    /// Gathers the line of the entry, and returns `Done`. If the entry's id is known, the log must already have
+    /// this line. If the line cannot be gathered or found, the worker stops.
     fn handle(&mut self, alloc: Global, entry: &EntryRef<'_>) -> Verdict
         ensures history { ⟦<Lines<D> as Handler>⟧.history self.new
             ≡ written_too (⟦<Lines<D> as Handler>⟧.history self.old) (pair_of entry.now) (verdict_of result) }
@@ -180,9 +180,9 @@ impl<D: LogFile + Drop> Handler for Lines<D> {
         }
     }
 
-    /// Writes the gathered lines and syncs the file. After an Ok every crash leaves a file that begins with the lines
-    /// committed before and these lines. After an `Err` the lines committed before stay, and the next commit writes
-    /// these lines too.
+    /// Writes the gathered lines and syncs the file. After `Ok`, any crash leaves a file that begins with the
+    /// lines committed before, followed by the gathered lines. After an `Err` the lines committed before
+    /// remain, and the next commit writes the gathered lines too.
     fn commit(&mut self, _alloc: Global) -> Result<(), NotCommitted>
         ensures holds { OnOk result ((lines : List ℕ)
             → Holds D.seen D.may_leave D.is_sound lines self.old.log.file self.old.log.len self.old.log.is_broken
@@ -213,7 +213,7 @@ impl<D: LogFile + Drop> Handler for Lines<D> {
     }
 }
 
-/// Reads the ids of the lines of a file, with `look_up`.
+/// Reads the ids of the lines of a file if `look_up` is true.
 fn ids_of<D: LogFile>(
     alloc: Global,
     file: &D,
@@ -231,7 +231,7 @@ fn ids_of<D: LogFile>(
     }
 }
 
-/// Adds the line of an entry to the log, and its id and offset to the known ones. If its id was known, the log must
+/// Adds the line of an entry to the log, and its id and offset to `known`. If the id was known, the log must
 /// already have this line.
 fn add_new<D: LogFile + Drop>(
     alloc: Global,
@@ -271,7 +271,7 @@ fn add_new<D: LogFile + Drop>(
     Ok(())
 }
 
-/// Checks that the log has the line of an entry with a known id at this offset.
+/// Checks that the log has the line of `entry` at the offset `at`.
 fn check_line_at<D: LogFile + Drop>(
     alloc: Global,
     log: &LineLog<D>,
@@ -313,7 +313,7 @@ fn add<D: LogFile + Drop>(
     Ok(())
 }
 
-/// Replaces this text by the line of an entry.
+/// Replaces `text` by the line of an entry.
 fn set_line(
     alloc: Global,
     text: &mut Vec<u8>,
@@ -331,7 +331,7 @@ fn set_line(
     }
 }
 
-/// Appends the line of an entry: its id, and its names and values in order, separated by tabs.
+/// Appends the line of an entry: the id, the names and the values, in order and separated by tabs.
 fn push_line(text: &mut Vec<u8>, entry: &EntryRef<'_>) -> Result<(), AllocError>
     ensures { OnOk result (text.new.items ≡ text.old.items ++ line_of (pair_of entry.now)) }
 {
@@ -339,7 +339,7 @@ fn push_line(text: &mut Vec<u8>, entry: &EntryRef<'_>) -> Result<(), AllocError>
     push_fields(text, entry.fields())
 }
 
-/// Appends names and values, each after a tab.
+/// Appends the names and the values, each after a tab.
 fn push_fields(text: &mut Vec<u8>, fields: FieldsRef<'_>) -> Result<(), AllocError>
     ensures { OnOk result (text.new.items ≡ text.old.items ++ flat_map field_text fields.entry) }
 {

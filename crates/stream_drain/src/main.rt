@@ -4,19 +4,23 @@
 //! bash -c 'exec 3<>/dev/tcp/127.0.0.1/6379; stream_drain orders packers ann orders.txt <&3 >&3'
 //! ```
 //!
-//! Each entry is a line of the file: its id and its fields, in order and with repeated ones, separated by tabs. A
-//! backslash, a tab, a line feed and a carriage return in them are written as `\\`, `\t`, `\n` and `\r`. With `--json`
-//! each line is `{"id":"1-0","fields":[["name","value"],..]}`, and a text that is not UTF-8 is `{"base64":".."}` there.
-//! The lines of a batch are on the disk before its entries are acknowledged. So after any crash an entry that was added
-//! is not yet delivered, or pending, or in the file, or was deleted; with `--dead` it may have a letter in place of a
-//! line.
+//! Each entry is one line of the file: the id and the fields, in order and including repeated names, separated
+//! by tabs. A backslash, a tab, a line feed and a carriage return are written as `\\`, `\t`, `\n` and `\r`.
+//! With `--json` each line is `{"id":"1-0","fields":[["name","value"],..]}`. There a text that is not UTF-8 is
+//! written as `{"base64":".."}`.
 //!
-//! A program that is started again first acknowledges the entries of the last lines of its file. So no entry has two
-//! lines, if no other consumer writes to the file.
+//! The lines of a batch are on the disk before its entries are acknowledged. Therefore after any crash each
+//! added entry is not yet delivered, is pending, is in the file, or was deleted. With `--dead` an entry may
+//! have a dead letter instead of a line.
 //!
-//! With the first batch, and then once a second, it prints its counts and the group's backlog on standard error, and at
-//! the end its counts; with `--quiet` only at the end. The exit status is 0 if `--until-empty` is given and a read
-//! returned nothing new, 2 if an argument is wrong, and else 1 with the reason. `--help` prints its arguments.
+//! If the program is started again, it first acknowledges the entries of the last lines of its file. Therefore
+//! no entry has two lines, if no other consumer writes to the file.
+//!
+//! With the first batch, and then once a second, the program prints its counts and the group's backlog on
+//! standard error. At the end it prints its counts. With `--quiet` it prints only the counts at the end.
+//!
+//! The exit status is 0 if `--until-empty` is given and a read returned nothing new, and 2 if an argument is
+//! invalid. Otherwise it is 1, and the reason is printed. `--help` prints the arguments.
 #![tactic(auto)]
 
 ghost use Rattle.std.specs.Prelude.{◌≡◌, ◌≤◌, ◌⊎◌, [], IfOk, IfSome, IsOk, IsTrue, OnErr, OnOk, is_some, map, option_map, string_bytes, true};
@@ -67,8 +71,9 @@ fn main(rt: HostRuntime) -> Result<ExitCode> {
     run_by_words(&rt, &rt, &words, &mut connection)
 }
 
-/// Drains over this connection, into a file of these files, as the words say. Returns the exit status: 0 if the loop
-/// ended as asked, or the words ask for the help; 2 if they are wrong; else 1.
+/// Parses `words` as the command line, and drains the stream into the file that they name. Returns the exit
+/// status 0 if the loop ended because of `--until-empty`, or if the arguments ask for the help. The status is 2
+/// if the arguments are invalid, and else 1.
 fn run_by_words<
     R: Read + Drop,
     W: Write + Drop,
@@ -91,7 +96,7 @@ fn run_by_words<
     }
 }
 
-/// The exit status: 0, or 1 after a failure, which is shown on standard error.
+/// Returns the exit status: 0, or 1 after a failure. Shows the failure on standard error.
 fn end_with<T: Eprint + AllocGlobal>(rt: &T, ended: Result<Drained, Failure>) -> Result<ExitCode>
     ensures ok { OnOk ended (IfOk result (λ code. exit_status code ≡ 0)) }
     ensures err { OnErr ended (IfOk result (λ code. exit_status code ≡ 1)) }
@@ -105,8 +110,8 @@ fn end_with<T: Eprint + AllocGlobal>(rt: &T, ended: Result<Drained, Failure>) ->
     Ok(ExitCode::FAILURE)
 }
 
-/// The text of a failure: an error of the server in full, and what to do about it. A control character, which could
-/// steer a terminal, is shown as `?`.
+/// Returns the text of a failure: the full error of the server, and advice about it. Each control character
+/// becomes `?`, since it could control a terminal.
 fn text_of(alloc: Global, failure: &Failure) -> Result<String, AllocError> {
     if let Failure::Other(error) = failure {
         let text = format!(in alloc; "{error:?}")?;
@@ -125,13 +130,13 @@ fn text_of(alloc: Global, failure: &Failure) -> Result<String, AllocError> {
     Ok(text)
 }
 
-/// The code of the server's error that a text names.
+/// Returns the code of the server's error in the text.
 fn find_code(text: &str) -> Option<&str> {
     let (_, error) = text.split_once("the server replied ")?;
     error.split(' ').next()
 }
 
-/// The text with `?` for each control character. Line feeds are kept if `keeps_lines`.
+/// Replaces each control character by `?`. Line feeds are kept if `keeps_lines` is true.
 fn mask_controls(alloc: Global, text: &str, keeps_lines: bool) -> Result<String, AllocError> {
     let mut shown = String::new(alloc);
     for letter in text.chars() {
@@ -141,7 +146,7 @@ fn mask_controls(alloc: Global, text: &str, keeps_lines: bool) -> Result<String,
     Ok(shown)
 }
 
-/// The arguments of the program.
+/// Returns the arguments of the program.
 fn read_arguments(rt: &HostRuntime) -> Result<Vec<String>> {
     let mut words = Vec::new(rt.alloc());
     for word in env::args(rt)?.skip(1) {
@@ -150,7 +155,7 @@ fn read_arguments(rt: &HostRuntime) -> Result<Vec<String>> {
     Ok(words)
 }
 
-/// Drains by these options, over this connection, into the file of their path.
+/// Drains with these options into the file at their path.
 fn drain_by<
     R: Read + Drop,
     W: Write + Drop,
@@ -172,7 +177,7 @@ fn drain_by<
     drain_into(rt, connection, &mut lines, options)
 }
 
-/// Drains by these options, over this connection, into the file of these lines.
+/// Drains with these options into the file of `lines`.
 fn drain_into<R: Read + Drop, W: Write + Drop, D: LogFile + Drop, T: Clock + Eprint + AllocGlobal>(
     rt: &T,
     connection: &mut Connection<R, W>,
@@ -200,7 +205,7 @@ struct Run {
     until_empty: bool,
 }
 
-/// A run by these options over the file of these lines.
+/// Creates a run with these options over the file of `lines`.
 fn begin_run<D: LogFile + Drop>(alloc: Global, options: Options, lines: &Lines<D>) -> Result<Run>
     ensures settings { IfOk result (λ run. run.worker.settings ≡ settings_with options.dead options.settings) }
     ensures wait { IfOk result (λ run. run.wait ≡ options.wait) }
@@ -251,7 +256,7 @@ fn make_run<R: Read + Drop, W: Write + Drop, D: LogFile + Drop, T: Clock + Eprin
     ended
 }
 
-/// How many entries were given up, if any may be.
+/// Returns the number of entries that were given up, or `None` if entries are not given up.
 fn count_letters(dead: &Option<DeadLetterSearch>) -> Option<u64> {
     match dead {
         Some(dead) => Some(dead.letters()),
@@ -259,7 +264,7 @@ fn count_letters(dead: &Option<DeadLetterSearch>) -> Option<u64> {
     }
 }
 
-/// The worker, which first acknowledges the ids of the last lines of its file.
+/// Creates the worker. It first acknowledges the ids of the last lines of its file.
 fn begin_worker<D: LogFile + Drop>(
     alloc: Global,
     settings: Settings,
@@ -271,7 +276,7 @@ fn begin_worker<D: LogFile + Drop>(
     begun(alloc, settings, lines).context(format_args!("cannot go on with {path}"))
 }
 
-/// If the worker first acknowledges ids of its file, the search for dead letters skips its first turn.
+/// Makes the search for dead letters skip its first turn, if the worker first acknowledges ids of its file.
 fn wait_at_start(dead: &mut Option<DeadLetterSearch>, acknowledges: bool)
     ensures same { option_map searcher_of dead.new ≡ option_map searcher_of dead.old }
     ensures waits { IsTrue acknowledges → IfSome dead.new (λ search. search.waits ≡ true) }
@@ -287,7 +292,7 @@ fn show_report<T: Eprint>(rt: &T, report: &Report) -> Result<()> {
     Ok(())
 }
 
-/// Opens the file of this path for lines.
+/// Opens the file at `path` for lines.
 fn open_lines<D: LogFile + Drop, F: Open<D>>(
     alloc: Global,
     files: &F,
@@ -308,7 +313,7 @@ fn open_lines<D: LogFile + Drop, F: Open<D>>(
     Lines::open(alloc, file, json, look_up).context(format_args!("cannot open {path}"))
 }
 
-/// The error of a file that was not opened.
+/// Returns the error of a file that could not be opened.
 fn describe_open_error(path: &str, error: LogError) -> Error {
     match error {
         LogError::File(reason) => {
@@ -322,8 +327,8 @@ fn describe_open_error(path: &str, error: LogError) -> Error {
     }
 }
 
-/// The search for entries that were delivered too often, if they are given up. Then entries that were delivered before
-/// are requested one at a time.
+/// Creates the search for entries that were delivered too often, if `to` is given. Then redelivered entries are
+/// requested one at a time.
 fn make_search(
     alloc: Global,
     settings: &mut Settings,
@@ -339,7 +344,7 @@ fn make_search(
     }
 }
 
-/// The report, with the backlog of the group unless it is quiet.
+/// Creates the report. It shows the backlog of the group unless the program is quiet.
 fn make_report(alloc: Global, settings: &Settings, quiet: bool) -> Result<Report> {
     let mut report = Report::new(quiet);
     if !quiet {
@@ -348,7 +353,7 @@ fn make_report(alloc: Global, settings: &Settings, quiet: bool) -> Result<Report
     Ok(report)
 }
 
-/// The group whose backlog is shown.
+/// Returns the group whose backlog is shown.
 fn watched(alloc: Global, settings: &Settings) -> Result<Watched, AllocError> {
     let key = String::from_str(alloc, settings.key())?;
     let group = String::from_str(alloc, settings.group())?;

@@ -1,14 +1,14 @@
-//! The files of a system, as a source of files for lines.
+//! Opening files for lines.
 ghost use Rattle.std.specs.Prelude.{◌≡◌, List, None, Option, ℕ, IfOk};
 
 use worker_journal::{LogError, LogFile, SystemFile};
 
-/// What opens the file of a path.
+/// Opens files by their paths.
 pub trait Open<D: LogFile> {
-    /// The bytes of the file of this path, if they are known.
+    /// The bytes of the file at this path, if they are known.
     ghost content: { Self → List ℕ → Option (List ℕ) };
 
-    /// Opens the file of this path, and creates it if it does not exist.
+    /// Opens the file at `path`, and creates it if it does not exist.
     fn open(&self, path: &str) -> Result<D, LogError>
         ensures sound { IfOk result D.is_sound }
         ensures bytes { IfOk result (λ file. D.seen file ≡ content self.now path.now) };

@@ -22,21 +22,21 @@ use worker::dead_letters::GiveUp;
 pub struct Options {
     pub settings: Settings,
     pub path: String,
-    /// Whether it ends when a read returns no new entries.
+    /// Whether the program ends when a read returns no new entries.
     pub until_empty: bool,
     /// Whether each line is JSON.
     pub json: bool,
-    /// Whether each entry is searched for in the file, so none gets a second line.
+    /// Whether each entry is looked up in the file, so that none gets a second line.
     pub look_up: bool,
     /// Whether only the counts at the end are shown.
     pub quiet: bool,
-    /// Entries that were delivered too often are moved to a stream of dead letters.
+    /// The stream of dead letters, and the number of deliveries after which an entry is moved there.
     pub dead: Option<GiveUp>,
-    /// This number of replicas must confirm each command before its entries are handled.
+    /// The number of replicas that must confirm each command before its entries are handled.
     pub wait: Option<Wait>,
 }
 
-// At most the number of entries that are acknowledged at the start.
+// The largest count is at most the number of entries that are acknowledged at the start.
 pub const COUNT: Number = Number {
     name: "count",
     value: "ENTRIES",
@@ -52,7 +52,7 @@ const LOOK_UP: &str =
 const WAIT: &str =
     "So many replicas are to confirm each read within so many milliseconds, each number 1 at least";
 
-/// The options of these words, as clap reads them. If the words do not say so, they are refused.
+/// Parses the arguments with clap. Returns an error if the arguments do not specify the parsed options.
 pub fn options_of(alloc: Global, words: &[String]) -> Result<Options, Error>
     ensures least { IfOk result (λ _. 4 ≤ length words.now) }
     ensures said { IfOk result (λ options. AreOptionsOf (map string_bytes words.now) options) }
@@ -67,7 +67,7 @@ pub fn options_of(alloc: Global, words: &[String]) -> Result<Options, Error>
     Ok(options)
 }
 
-/// The options of a command line, by its matches.
+/// Returns the options that clap found in the arguments.
 fn options_in(
     alloc: Global,
     command: &mut Command<'_>,
@@ -130,8 +130,8 @@ fn with_flags<'a>(alloc: Global, command: Command<'a>) -> Result<Command<'a>, Al
         .arg(wait(alloc, WAIT))
 }
 
-/// The number of replicas that must confirm each command, and how long it waits for them. Letters are not confirmed, so
-/// `--dead` is refused then.
+/// Returns the value of `--wait`: the number of replicas that must confirm each command, and how long the
+/// program waits for them. Dead letters are not confirmed, so `--wait` together with `--dead` is an error.
 fn wait_beside(
     alloc: Global,
     command: &mut Command<'_>,

@@ -9,25 +9,26 @@ use std::rt::Clock;
 use std::time::{Duration, Instant};
 use std::{fmt, mem};
 
-/// Counts, which are shown at the end. Unless it is quiet they are also shown with the first batch, and then once a
-/// second.
+/// The counts, which are shown at the end. Unless the program is quiet, they are also shown with the first
+/// batch, and then once a second.
 #[derive(Drop)]
 pub struct Report {
-    /// When the counts were shown last.
+    /// The time at which the counts were shown last.
     shown: Option<Instant>,
-    /// What was drained and sent.
+    /// The numbers of entries, batches and dead letters.
     pub counts: Counts,
-    /// Whether the first acknowledgement is of entries that were in the file at the start, which is not a batch.
+    /// Whether the first acknowledgement is of entries that were in the file at the start. Such an
+    /// acknowledgement does not count as a batch.
     pub resumes: bool,
     /// Whether nothing is shown before the end.
     quiet: bool,
-    /// The group whose backlog is shown with the counts; `None` if it is quiet, or if the server does not return the
-    /// backlog.
+    /// The group whose backlog is shown with the counts. `None` if the program is quiet, or if the server does
+    /// not return the backlog.
     pub watched: Option<Watched>,
 }
 
 impl Report {
-    /// A report with all counts at 0.
+    /// Creates a report with all counts at 0.
     pub fn new(quiet: bool) -> Report
         ensures counts { (result.counts.entries ≡ 0) × (result.counts.batches ≡ 0)
             × (result.counts.letters ≡ None) × (result.resumes ≡ false) }
@@ -42,7 +43,7 @@ impl Report {
         }
     }
 
-    /// Whether it is time to show the counts, which it never is if it is quiet.
+    /// Whether it is time to show the counts. Always false if the program is quiet.
     pub fn is_due<R: Clock>(&self, rt: &R) -> bool
         ensures quiet { IsTrue self.now.quiet → result ≡ false }
         ensures first { self.now.quiet ≡ false → self.now.shown ≡ None → result ≡ true }
@@ -56,8 +57,8 @@ impl Report {
         }
     }
 
-    /// Takes the number of entries in the file once an acknowledgement has its reply. Returns whether it is time to
-    /// show the counts, which it never is if it is quiet.
+    /// Records the number of entries in the file after the reply to an acknowledgement. Returns whether it is
+    /// time to show the counts, which is always false if the program is quiet.
     pub fn count<R: Clock>(&mut self, rt: &R, entries: u64) -> Result<bool>
         ensures counts { OnOk result (self.new.counts.entries ≡ entries) }
         ensures quiet { IsTrue self.old.quiet → result ≡ Ok false }
@@ -75,7 +76,7 @@ impl Report {
     }
 }
 
-/// Whether this moment is a second ago. If the clock cannot be read, it is not.
+/// Whether `moment` was at least a second ago. Returns false if the clock cannot be read.
 fn is_second_ago<R: Clock>(rt: &R, moment: &Instant) -> bool {
     match moment.elapsed(rt) {
         Ok(elapsed) => Duration::from_secs(1) <= elapsed,

@@ -1,4 +1,4 @@
-//! The start of the program: with the ids of the last lines of its file.
+//! The start of the program with the ids of the last lines of its file.
 ghost use Rattle.std.specs.Prelude.{◌≡◌, ◌≤◌, ◌++◌, ◌∷◌, [], ℕ, List, IfOk, IfSome, IsTrue, codes, length, string_bytes, take};
 ghost use Rattle.std.specs.List.{list_all};
 ghost use Rattle.worker_journal.specs.Holds.{committed_in};
@@ -16,19 +16,20 @@ use std::alloc::{AllocError, Global};
 use worker::{Handler, Settings, Worker};
 use worker_journal::{LogFile, entry_in};
 
-/// The largest `COUNT`, so no commit has more lines.
+/// The largest `COUNT`. No commit has more lines.
 pub const LARGEST_COUNT: usize = 10_000;
 
 /// A worker at its start.
 #[derive(Drop)]
 pub struct Start {
     pub worker: Worker,
-    /// Whether it first acknowledges the entries in its file.
+    /// Whether the worker first acknowledges the entries in its file.
     pub acknowledges: bool,
 }
 
-/// A worker that first acknowledges the entries of the last lines of its file, as many as a commit may have. So entries
-/// with a line that were not acknowledged are not delivered again. It fails if one of these lines has no id.
+/// Creates a worker that first acknowledges the entries of the last lines of its file, as many as a commit may
+/// have. Therefore entries that have a line and were not acknowledged are not delivered again. A line without
+/// an id is an error.
 pub fn begun<D: LogFile + Drop>(
     alloc: Global,
     settings: Settings,
@@ -55,7 +56,7 @@ pub fn begun<D: LogFile + Drop>(
     })
 }
 
-/// Whether there is an id to acknowledge.
+/// Whether there are ids to acknowledge.
 fn has_ids(ids: &[String]) -> bool
     ensures { result ≡ has_any ids.now }
 {
@@ -65,7 +66,7 @@ fn has_ids(ids: &[String]) -> bool
     }
 }
 
-/// The ids of the entries of these lines, in order. It fails if a line has none.
+/// Returns the ids of the entries of the lines, in order. A line without an id is an error.
 pub fn ids_told(alloc: Global, lines: &[Vec<u8>], json: bool) -> Result<Vec<String>>
     ensures { IfOk result (λ ids. TellEach json (bytes_of lines.now) (ids_of ids)) }
 {
@@ -79,14 +80,15 @@ pub fn ids_told(alloc: Global, lines: &[Vec<u8>], json: bool) -> Result<Vec<Stri
     Ok(ids)
 }
 
-/// The error that the line at this place from the end has no id.
+/// Returns the error that a line has no id. `place` counts from the end of the file.
 fn fail_without_id(place: usize) -> Result<Vec<String>>
     ensures { IfOk result (λ _. ⊥) }
 {
     bail!("line {place} from its end is of no entry: correct the file, or take another one")
 }
 
-/// The id in a line; `None` if it is not a line of an entry, or the id is not one of a stream.
+/// Returns the id in a line. Returns `None` if the line is not that of an entry, or if the id cannot be the id
+/// of a stream entry.
 fn find_id(alloc: Global, line: &[u8], json: bool) -> Result<Option<String>, AllocError>
     ensures { IfOk result (λ o. IfSome o (λ id. Tells json line.now (string_bytes id))) }
 {
@@ -103,7 +105,7 @@ fn find_id(alloc: Global, line: &[u8], json: bool) -> Result<Option<String>, All
     }
 }
 
-/// These bytes as an id, if each is a digit or a hyphen, and there is a hyphen.
+/// Returns the bytes as an id. Returns `None` unless each byte is a digit or a hyphen, and there is a hyphen.
 fn read_id(alloc: Global, id: &[u8]) -> Result<Option<String>, AllocError>
     ensures { IfOk result (λ o. IfSome o (λ text. string_bytes text ≡ id.now)) }
 {
@@ -116,7 +118,7 @@ fn read_id(alloc: Global, id: &[u8]) -> Result<Option<String>, AllocError>
     }
 }
 
-/// The id in a line `{"id":"..","fields":[..`, if each of its bytes is a digit or a hyphen.
+/// Returns the id in a line `{"id":"..","fields":[..`, if each byte of the id is a digit or a hyphen.
 fn find_id_in_json(line: &[u8]) -> Option<&[u8]>
     ensures { IfSome result (λ id. (rest : List ℕ) × (line.now ≡ codes "{\"id\":\"" ++ (id.now ++ (34 ∷ rest)))
         × IsTrue (list_all is_of_id id.now)) }
@@ -132,7 +134,7 @@ fn find_id_in_json(line: &[u8]) -> Option<&[u8]>
     if is_head && is_next { Some(id) } else { None }
 }
 
-/// How many of the first bytes are digits and hyphens.
+/// Returns the number of digits and hyphens at the start of the text.
 fn of_id(text: &[u8]) -> usize
     ensures within { result ≤ length text.now }
     ensures all { IsTrue (list_all is_of_id (take result text.now)) }

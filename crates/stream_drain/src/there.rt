@@ -17,16 +17,16 @@ const AROUND: usize = 19;
 /// The text of the file at the offset of a known id.
 #[derive(Clone, Copy)]
 pub enum There {
-    /// This line, with its line end.
+    /// The line that was looked up, with its line end.
     Same,
-    /// Another line of this id.
+    /// Another line with the same id.
     Other,
-    /// Neither.
+    /// No line with this id.
     Neither,
 }
 
-/// Reads the text at this offset of the committed and gathered lines. It reads as many bytes as the line has, or as the
-/// start of another line of its id, and two more.
+/// Reads the text at the offset `at` of the committed and gathered lines. Reads two bytes more than the line
+/// has, or than the start of another line with this id has.
 pub fn what_is_at<D: LogFile + Drop>(
     alloc: Global,
     log: &LineLog<D>,
@@ -46,7 +46,8 @@ pub fn what_is_at<D: LogFile + Drop>(
     }
 }
 
-/// The text at this offset, if a line begins there. The bytes begin one before it, or there if it is the first.
+/// Returns the text at the offset `at`, if a line begins there. `bytes` start one byte before `at`, or at 0 if
+/// `at` is 0.
 fn begun(bytes: &[u8], at: usize) -> Option<&[u8]>
     ensures { option_map (λ text. text.now) result ≡ begun at bytes.now }
 {
@@ -59,7 +60,7 @@ fn begun(bytes: &[u8], at: usize) -> Option<&[u8]>
     }
 }
 
-/// Which line this text begins with.
+/// Compares the start of the text with the line, and with the start of a line of `id`.
 fn found_in(text: &[u8], line: &[u8], id: &[u8], json: bool) -> There
     ensures { result ≡ found_in json id.now line.now (Some text.now) }
 {
@@ -72,7 +73,7 @@ fn found_in(text: &[u8], line: &[u8], id: &[u8], json: bool) -> There
     }
 }
 
-/// Whether the text begins with this line and its line end.
+/// Whether the text begins with the line and a line end.
 fn has_line(text: &[u8], line: &[u8]) -> bool
     ensures { result ≡ has_line line.now text.now }
 {
@@ -82,7 +83,7 @@ fn has_line(text: &[u8], line: &[u8]) -> bool
     }
 }
 
-/// Whether the text begins as a line of this id does.
+/// Whether the text begins like a line with this id.
 fn has_id(text: &[u8], id: &[u8], json: bool) -> bool
     ensures { result ≡ has_id json id.now text.now }
 {
@@ -96,7 +97,7 @@ fn has_id(text: &[u8], id: &[u8], json: bool) -> bool
     }
 }
 
-/// Whether the text begins as a line of JSON of this id does.
+/// Whether the text begins like a line of JSON with this id.
 fn has_id_of_json(text: &[u8], id: &[u8]) -> bool
     ensures { result ≡ has_id true id.now text.now }
 {
@@ -109,7 +110,7 @@ fn has_id_of_json(text: &[u8], id: &[u8]) -> bool
     }
 }
 
-/// Whether a line ends here.
+/// Whether the text begins with a line end.
 fn ends(text: &[u8]) -> bool
     ensures { result ≡ ends text.now }
 {
@@ -119,7 +120,7 @@ fn ends(text: &[u8]) -> bool
     }
 }
 
-/// Whether a tab is here, or a line ends.
+/// Whether the text begins with a tab or a line end.
 fn ends_text(text: &[u8]) -> bool
     ensures { result ≡ ends_text text.now }
 {
