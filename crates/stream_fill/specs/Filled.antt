@@ -8,8 +8,8 @@ use Rattle.worker_producer.specs.Records.{Fields}
 use Rattle.worker_producer.specs.declared.filling.FillError.{FillError}
 use Rattle.worker_producer.specs.declared.settings.Settings.{Settings}
 
--- The session did not end with all records. Or it did, and then the counts could not be shown, or a last line has no
--- end.
+-- The session ended before all records were added. Or all records were added, but the counts could not be
+-- shown, or the file has bytes after the last line end.
 abbrev pub FillsNot : Option Wait → Settings → Option (List Fields) → ℕ → Link → Link → Type 0
 FillsNot wait s known count old new =
     FinishedConfirmed wait s known count old new ⊎ ((e : FillError) × Fails wait s known count old new e)

@@ -11,23 +11,24 @@ use Rattle.stream_fill.specs.declared.lines.Form.TheVariants as forms
 abbrev pub Record : Type 0
 Record = Vec (Vec ℕ Global × Vec ℕ Global) Global
 
--- the record of a line: that of its JSON, or a text gives one field
+-- `r` is the record of a line: the record of its JSON, or one field with the line as its value
 abbrev pub IsRecordOf : Form → List ℕ → Record → Type 0
 IsRecordOf forms.Json line r = record_of_line line ≡ Some (fields_of r)
 IsRecordOf (forms.Text name) line r = fields_of r ≡ (name.items, line) ∷ []
 
--- the same of each of these and its line
+-- the records are those of the lines, in order
 abbrev pub AreRecordsOf : Form → List (List ℕ) → List Record → Type 0
 AreRecordsOf form [] [] = Unit {0}
 AreRecordsOf form [] (r ∷ rs) = ⊥
 AreRecordsOf form (l ∷ ls) [] = ⊥
 AreRecordsOf form (l ∷ ls) (r ∷ rs) = IsRecordOf form l r × AreRecordsOf form ls rs
 
--- the fields of a line's record. A line of JSON that has no record has none, and is never read as one
+-- the fields of a line's record. A line of JSON that is no record has no fields here, and is never read as a
+-- record.
 abbrev pub fields_in : Form → List ℕ → Fields
 fields_in forms.Json line = unwrap_or (record_of_line line) []
 fields_in (forms.Text name) line = (name.items, line) ∷ []
 
--- all records of a file with these bytes: one of each whole line
+-- all records of a file: one record for each complete line
 abbrev pub records_of : Form → Option (List ℕ) → Option (List Fields)
 records_of form known = option_map (λ bytes. map (fields_in form) (lines_of bytes)) known

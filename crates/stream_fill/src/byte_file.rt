@@ -1,4 +1,4 @@
-//! Files whose bytes are read from any offset on.
+//! Files that are read at any offset.
 ghost use Rattle.std.specs.Prelude.{◌≡◌, ◌≤◌, ◌<◌, ℕ, List, Option, Some, None, IfOk, length, take, drop};
 ghost use Rattle.std.specs.Option.{ForSome};
 
@@ -6,14 +6,13 @@ use std::fs::File;
 use std::io;
 use std::os::unix::fs::FileExt;
 
-/// A file whose bytes are read from any offset on. It has no position, so a read changes nothing, and neither does one
-/// that fails.
+/// A file that is read at any offset. The file has no position, so a read changes nothing, even if it fails.
 pub trait ByteFile {
-    /// The bytes of the file, if they are known: no contract can give those of a file of the system.
+    /// The bytes of the file, if they are known. The bytes of a system file are not known to any contract.
     ghost bytes: { Self → Option (List ℕ) };
 
-    /// Reads the bytes from this offset on into `piece`, as many as come at once, and returns their number. It is 0 only
-    /// at the end of the file, or if `piece` has no room.
+    /// Reads bytes at `offset` into `piece`, as many as one read returns, and returns their number. The number
+    /// is 0 only at the end of the file, or if `piece` is empty.
     fn read_at(&self, piece: &mut [u8], offset: u64) -> io::Result<usize>
         ensures room { IfOk result (λ n. n ≤ length piece.new) }
         ensures read { IfOk result (λ n. ForSome (bytes self.now) (λ all.
@@ -22,7 +21,7 @@ pub trait ByteFile {
             length all ≤ offset)) };
 }
 
-/// A file of the system.
+/// A file of the operating system.
 impl ByteFile for File {
     ghost bytes = { λ _. None };
 

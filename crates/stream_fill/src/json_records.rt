@@ -49,9 +49,9 @@ impl<T: Drop> From<AllocFailed<T>> for NoRecord {
     }
 }
 
-/// The record of a line: an object of texts, `{"name":"value",..}`, or a line of `stream_drain`,
-/// `{"id":"1-0","fields":[["name","value"],..]}`, whose id is ignored. A text is a string or, if it is not UTF-8,
-/// `{"base64":".."}`.
+/// Parses the record of a line. The line is an object of texts, `{"name":"value",..}`, or a line of
+/// `stream_drain`, `{"id":"1-0","fields":[["name","value"],..]}`, whose id is ignored. A text is a string or,
+/// if it is not UTF-8, `{"base64":".."}`.
 pub fn record_of_json(alloc: Global, scratch: &mut Scratch, line: &[u8]) -> Result<Record, NoRecord>
     ensures ok { IfOk result (λ r. record_of_line line.now ≡ Some (fields_of r)) }
     ensures err { IfErr result (IsNoRecord line.now) }
@@ -64,7 +64,7 @@ pub fn record_of_json(alloc: Global, scratch: &mut Scratch, line: &[u8]) -> Resu
     Ok(record)
 }
 
-/// The value of a line.
+/// Parses the JSON value of a line.
 fn parse_line<'a>(
     alloc: Global,
     scratch: &'a mut Scratch,
@@ -79,7 +79,7 @@ fn parse_line<'a>(
     }
 }
 
-/// Why a line has no value.
+/// Returns why a line is not a JSON value.
 fn explain_error(error: json::Error) -> NoRecord
     ensures { result ≡ reason_of error }
 {
@@ -89,7 +89,7 @@ fn explain_error(error: json::Error) -> NoRecord
     }
 }
 
-/// The record of a value.
+/// Returns the record of a JSON value.
 fn parse_value(alloc: Global, value: &Value<'_>) -> Result<Record, NoRecord>
     ensures ok { IfOk result (λ r. fields_of_value (value_view value.now) ≡ Some (fields_of r)) }
     ensures err { IfErr result (IsNoText (fields_of_value (value_view value.now))) }
@@ -100,7 +100,7 @@ fn parse_value(alloc: Global, value: &Value<'_>) -> Result<Record, NoRecord>
     }
 }
 
-/// The record of an object, which is a line of `stream_drain` or has a field for each member.
+/// Returns the record of an object. The object is a line of `stream_drain`, or has one field for each member.
 fn parse_object(alloc: Global, members: &[(&str, Value<'_>)]) -> Result<Record, NoRecord>
     ensures ok { IfOk result (λ r. fields_of_object (members_view members.now) ≡ Some (fields_of r)) }
     ensures err { IfErr result (IsNoText (fields_of_object (members_view members.now))) }
@@ -111,7 +111,7 @@ fn parse_object(alloc: Global, members: &[(&str, Value<'_>)]) -> Result<Record, 
     }
 }
 
-/// The pairs of a line of `stream_drain`, if these are its members.
+/// Returns the pairs of a line of `stream_drain`, or `None` if the members are not those of such a line.
 fn find_pairs<'m, 'a>(members: &'m [(&str, Value<'a>)]) -> Option<&'m [Value<'a>]>
     ensures { option_map (λ pairs. items_view pairs.now) result ≡ pairs_of (members_view members.now) }
 {
@@ -127,7 +127,7 @@ fn find_pairs<'m, 'a>(members: &'m [(&str, Value<'a>)]) -> Option<&'m [Value<'a>
     items_of(&fields.1)
 }
 
-/// The items of an array.
+/// Returns the items of an array, or `None` if the value is not an array.
 fn items_of<'m, 'a>(value: &'m Value<'a>) -> Option<&'m [Value<'a>]>
     ensures { option_map (λ items. items_view items.now) result ≡ as_array (value_view value.now) }
 {
@@ -144,7 +144,7 @@ fn is_id(member: &(&str, Value<'_>)) -> bool
     member.0 == "id" && matches!(&member.1, Value::String(_))
 }
 
-/// The record of pairs, each of which is a field.
+/// Returns the record with one field for each pair.
 fn parse_pairs(alloc: Global, pairs: &[Value<'_>]) -> Result<Record, NoRecord>
     ensures ok { IfOk result (λ r. fields_of_pairs (items_view pairs.now) ≡ Some (fields_of r)) }
     ensures err { IfErr result (IsNoText (fields_of_pairs (items_view pairs.now))) }
@@ -156,7 +156,7 @@ fn parse_pairs(alloc: Global, pairs: &[Value<'_>]) -> Result<Record, NoRecord>
     Ok(record)
 }
 
-/// The field of an array of a name and a value.
+/// Returns the field of an array with a name and a value.
 fn parse_pair(alloc: Global, pair: &Value<'_>) -> Result<Field, NoRecord>
     ensures ok { IfOk result (λ f. field_of_pair (value_view pair.now) ≡ Some (field_of f)) }
     ensures err { IfErr result (IsNoText (field_of_pair (value_view pair.now))) }
@@ -170,7 +170,7 @@ fn parse_pair(alloc: Global, pair: &Value<'_>) -> Result<Field, NoRecord>
     }
 }
 
-/// The record of members, each of which is a field.
+/// Returns the record with one field for each member.
 fn parse_members(alloc: Global, members: &[(&str, Value<'_>)]) -> Result<Record, NoRecord>
     ensures ok { IfOk result (λ r. fields_of_members (members_view members.now) ≡ Some (fields_of r)) }
     ensures err { IfErr result (IsNoText (fields_of_members (members_view members.now))) }
@@ -182,7 +182,7 @@ fn parse_members(alloc: Global, members: &[(&str, Value<'_>)]) -> Result<Record,
     Ok(record)
 }
 
-/// The field of a member: its name and its text.
+/// Returns the field of a member: the name and the text.
 fn parse_member(alloc: Global, member: &(&str, Value<'_>)) -> Result<Field, NoRecord>
     ensures ok { IfOk result (λ f. field_of_member member.now.0.now (value_view member.now.1) ≡ Some (field_of f)) }
     ensures err { IfErr result (IsNoText (field_of_member member.now.0.now (value_view member.now.1))) }
@@ -191,7 +191,7 @@ fn parse_member(alloc: Global, member: &(&str, Value<'_>)) -> Result<Field, NoRe
     Ok((name, parse_text(alloc, &member.1)?))
 }
 
-/// The bytes of a text: a string, or an object with Base64.
+/// Returns the bytes of a text. A text is a string, or an object with Base64.
 fn parse_text(alloc: Global, value: &Value<'_>) -> Result<Vec<u8>, NoRecord>
     ensures ok { IfOk result (λ bytes. text_of (value_view value.now) ≡ Some bytes.items) }
     ensures err { IfErr result (IsNoText (text_of (value_view value.now))) }
@@ -206,7 +206,7 @@ fn parse_text(alloc: Global, value: &Value<'_>) -> Result<Vec<u8>, NoRecord>
     }
 }
 
-/// Decodes a member with Base64.
+/// Decodes the value of the member `base64`.
 fn decode_member(alloc: Global, member: &(&str, Value<'_>)) -> Result<Vec<u8>, NoRecord>
     ensures ok { IfOk result (λ bytes. decoded member.now.0.now (value_view member.now.1) ≡ Some bytes.items) }
     ensures err { IfErr result (IsNoText (decoded member.now.0.now (value_view member.now.1))) }

@@ -1,7 +1,7 @@
-//! The base of records that are added after the entries of a stream, stored in a file.
+//! The base of records that are added after the entries of a stream. The base is stored in a file.
 //!
-//! A first run takes the last id of the stream as the base. It writes the base to the file, and syncs it, before it
-//! adds anything. So a later run finds the same base, and goes on.
+//! A first run takes the last id of the stream as the base. It writes the base to the file, and syncs the file,
+//! before it adds records. Therefore a later run finds the same base, and continues.
 ghost use Rattle.std.specs.Prelude.{◌≡◌, ◌<◌, ◌^◌, ℕ, Some, decimal, IfErr, IfOk, IfSome, OnOk};
 ghost use Rattle.worker_journal.specs.Device.{Only};
 ghost use Rattle.stream_fill.specs.Base.{BeginsWithNumber, FindsBase, HasNoBase, IsOfFile, IsUnkept, IsUnread, Keeps, base_line};
@@ -19,7 +19,7 @@ use worker_producer::{RunError, ask_last_id};
 /// Why no base was found.
 #[derive(Debug, Drop, Error)]
 pub enum BaseError {
-    /// The file has another content.
+    /// The file has other content than a base of this stream.
     #[error("keeps no base of this stream")]
     OtherFile,
     /// The file could not be read or written.
@@ -64,8 +64,8 @@ impl From<RunError> for BaseError {
     }
 }
 
-/// Returns the base that the file has for the stream `key`. If it has none, the base is the first number of the
-/// stream's last id, and is written to the file.
+/// Returns the base in the file for the stream `key`. If the file has no base, the base is the first number of
+/// the stream's last id. Then the base is written to the file.
 pub fn find_base<D: LogFile, R: Read + Drop, W: Write + Drop>(
     alloc: Global,
     file: &mut D,
@@ -83,8 +83,8 @@ pub fn find_base<D: LogFile, R: Read + Drop, W: Write + Drop>(
     Ok(base)
 }
 
-/// Reads the base that a file has for the stream `key`, if any. A run that was killed while it wrote the base may have
-/// left a part of it. That is not a base, and nothing was added yet.
+/// Reads the base in the file for the stream `key`, if there is one. A run that was killed while it wrote the
+/// base may have left a part of it. Such a part is not a base, and no record was added yet.
 #[tactic(auto, using(crate::proofs::KeepLemmas::whole_kept))]
 fn read_base<D: LogFile>(alloc: Global, file: &D, key: &str) -> Result<Option<u64>, BaseError>
     ensures ok { IfOk result (λ found. IfSome (D.seen file.now) (λ bytes. Keeps key.now bytes found)) }
@@ -95,7 +95,7 @@ fn read_base<D: LogFile>(alloc: Global, file: &D, key: &str) -> Result<Option<u6
     base_in(alloc, &bytes, key)
 }
 
-/// Parses the base in these bytes of a file; `None` if they are only a part of such a line.
+/// Parses the base in `bytes`. Returns `None` if they are only the beginning of such a line.
 fn base_in(alloc: Global, bytes: &[u8], key: &str) -> Result<Option<u64>, BaseError>
     ensures ok { IfOk result (Keeps key.now bytes.now) }
     ensures err { IfErr result (IsUnkept key.now bytes.now) }
@@ -113,7 +113,7 @@ fn base_in(alloc: Global, bytes: &[u8], key: &str) -> Result<Option<u64>, BaseEr
     Err(BaseError::OtherFile)
 }
 
-/// Parses the number at the start of bytes, up to a space or their end; 0 if there are no bytes.
+/// Parses the number at the start of `bytes`, up to a space or the end. Returns 0 if there are no bytes.
 #[tactic(auto, using(crate::proofs::BaseLemmas::of_nothing, crate::proofs::BaseLemmas::before_space, crate::proofs::BaseLemmas::without_space))]
 fn number_at_front(bytes: &[u8]) -> Option<u64>
     ensures { (n : ℕ) → n < 2 ^ 64 → BeginsWithNumber bytes.now n → result ≡ Some n }
@@ -127,7 +127,7 @@ fn number_at_front(bytes: &[u8]) -> Option<u64>
     }
 }
 
-/// Parses these digits as a number.
+/// Parses `digits` as a number.
 #[tactic(auto, using(crate::proofs::BaseLemmas::not_text, crate::proofs::BaseLemmas::read_back))]
 fn number_of(digits: &[u8]) -> Option<u64>
     ensures { (n : ℕ) → n < 2 ^ 64 → digits.now ≡ decimal n → result ≡ Some n }
@@ -138,7 +138,7 @@ fn number_of(digits: &[u8]) -> Option<u64>
     text.parse::<u64>().ok()
 }
 
-/// Writes this base to the file, in place of a part of one.
+/// Writes the base to the file, in place of a part of a base.
 #[tactic(auto, using(crate::proofs::KeepLemmas::line_kept))]
 fn keep_base<D: LogFile>(alloc: Global, file: &mut D, key: &str, base: u64) -> Result<(), BaseError>
     ensures kept { OnOk result (IfSome (D.seen file.old)
@@ -154,7 +154,7 @@ fn keep_base<D: LogFile>(alloc: Global, file: &mut D, key: &str, base: u64) -> R
     Ok(())
 }
 
-/// The line of a base: its digits, a space, the key and a line feed.
+/// Returns the line of a base: the digits, a space, the key and a line feed.
 fn format_base(alloc: Global, key: &str, base: u64) -> Result<Vec<u8>, AllocError>
     ensures { IfOk result (λ line. line.items ≡ base_line key.now base) }
 {

@@ -10,15 +10,15 @@ use anyhow::{Context, Error, Result, bail};
 use std::alloc::Global;
 use std::io::{self, ErrorKind};
 
-/// How many bytes of the file are read at once.
+/// The number of bytes that one read of the file requests.
 const PIECE: usize = 65_536;
 
-/// A place between two lines.
+/// A position between two lines.
 #[derive(Clone, Copy)]
 pub struct Place {
-    /// How many lines are before it.
+    /// The number of lines before the position.
     pub number: u64,
-    /// How many bytes.
+    /// The number of bytes before the position.
     pub offset: u64,
 }
 
@@ -27,12 +27,12 @@ pub struct Place {
 pub struct LineReader<F: ByteFile + Drop> {
     alloc: Global,
     file: F,
-    /// Bytes of the file, of which the first `begin` were passed over.
+    /// Bytes of the file. The first `begin` bytes were passed over.
     buffer: Vec<u8>,
     begin: usize,
-    /// The place after those.
+    /// The position after the bytes that were passed over.
     place: Place,
-    /// Room for the bytes of the next read.
+    /// The buffer for the bytes of the next read.
     piece: Vec<u8>,
     ghost within: { begin ≤ length buffer.items },
     ghost front: { ForSome (F.bytes file) (λ all. IsFront (drop begin buffer.items) (drop place.offset all)) },
@@ -40,7 +40,7 @@ pub struct LineReader<F: ByteFile + Drop> {
 }
 
 impl<F: ByteFile + Drop> LineReader<F> {
-    /// A reader at the start of this file.
+    /// Creates a reader at the start of `file`.
     pub fn new(alloc: Global, file: F) -> LineReader<F>
         ensures { F.bytes result.file ≡ F.bytes file }
     {
@@ -57,21 +57,21 @@ impl<F: ByteFile + Drop> LineReader<F> {
         }
     }
 
-    /// The place of the next line.
+    /// Returns the position of the next line.
     pub fn place(&self) -> Place
         ensures { result ≡ self.now.place }
     {
         self.place
     }
 
-    /// The bytes that were read, and are not passed over yet.
+    /// Returns the bytes that were read and not passed over yet.
     pub fn waiting(&self) -> &[u8]
         ensures { result.now ≡ drop self.now.begin self.now.buffer.items }
     {
         &self.buffer[self.begin..]
     }
 
-    /// Goes to this place.
+    /// Moves to `place`.
     pub fn seek(&mut self, place: Place)
         requires { ForSome (F.bytes self.old.file) (λ all. IsPlace all place) }
         ensures file { self.new.file ≡ self.old.file }
@@ -82,7 +82,8 @@ impl<F: ByteFile + Drop> LineReader<F> {
         self.place = place;
     }
 
-    /// Passes over some of the next lines, at most `most`. Returns false, and stays, if no line feed follows.
+    /// Passes over some of the next lines, at most `most`. Returns false, and passes over nothing, if no line
+    /// feed follows.
     pub fn pass_lines(&mut self, most: u64) -> Result<bool>
         ensures file { F.bytes self.new.file ≡ F.bytes self.old.file }
         ensures most { self.new.place.number ≤ self.old.place.number + most }
@@ -100,7 +101,7 @@ impl<F: ByteFile + Drop> LineReader<F> {
         }
     }
 
-    /// Reads the next line, without its line feed. Returns false if no line feed follows.
+    /// Reads the next line without its line feed. Returns false if no line feed follows.
     pub fn read_line(&mut self, line: &mut Vec<u8>) -> Result<bool>
         ensures file { F.bytes self.new.file ≡ F.bytes self.old.file }
         ensures next { IfOk result (λ is_line. is_line ≡ true
@@ -119,8 +120,8 @@ impl<F: ByteFile + Drop> LineReader<F> {
         }
     }
 
-    /// Reads on until the next line is in the buffer, and returns its length. `None` if no line feed follows: then the
-    /// rest of the file is there.
+    /// Reads until the next line is in the buffer, and returns the line's length. Returns `None` if no line
+    /// feed follows. Then the buffer contains the rest of the file.
     fn find_line(&mut self) -> Result<Option<usize>>
         ensures file { F.bytes self.new.file ≡ F.bytes self.old.file }
         ensures place { self.new.place ≡ self.old.place }
@@ -142,7 +143,8 @@ impl<F: ByteFile + Drop> LineReader<F> {
         bail!("the file has no end")
     }
 
-    /// Reads a piece of the file after the buffer. Returns false, with the same bytes there, at the end of the file.
+    /// Appends a piece of the file to the buffer. Returns false, and keeps the buffer's bytes, at the end of
+    /// the file.
     fn read_more(&mut self) -> Result<bool>
         ensures file { F.bytes self.new.file ≡ F.bytes self.old.file }
         ensures place { self.new.place ≡ self.old.place }
@@ -169,7 +171,7 @@ impl<F: ByteFile + Drop> LineReader<F> {
         }
     }
 
-    /// Passes over this number of lines, which have this length with their line feeds.
+    /// Passes over `lines` lines. `len` is their length, including the line feeds.
     fn pass_bytes(&mut self, lines: u64, len: usize) -> Result<()>
         requires within { len ≤ length (drop self.old.begin self.old.buffer.items) }
         requires lines { HasLines (drop self.old.begin self.old.buffer.items) lines
@@ -190,8 +192,8 @@ impl<F: ByteFile + Drop> LineReader<F> {
     }
 }
 
-/// Appends the bytes of the file from this offset on, and returns their number. They are read into `piece`, which grows
-/// to `room` bytes.
+/// Appends the bytes of the file at `offset`, and returns their number. The bytes are read into `piece`, which
+/// grows to `room` bytes.
 fn read_after<F: ByteFile>(
     file: &F,
     piece: &mut Vec<u8>,
@@ -214,8 +216,8 @@ fn read_after<F: ByteFile>(
     Ok(count)
 }
 
-/// Counts whole lines at the front of these bytes, at most `most`. Returns how many they are, and how many bytes they
-/// have with their line feeds.
+/// Counts complete lines at the start of `bytes`, at most `most`. Returns their number, and their length
+/// including the line feeds.
 #[tactic(auto, using(crate::proofs::ReaderLemmas::none_counted, crate::proofs::ReaderLemmas::one_more_counted))]
 fn count_lines(bytes: &[u8], most: u64) -> (u64, usize)
     ensures most { result.0 ≤ most }

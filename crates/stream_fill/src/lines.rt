@@ -14,33 +14,33 @@ use json::Scratch;
 use std::alloc::{AllocError, Global};
 use worker_producer::{NotRead, Record, Source};
 
-/// Remembers the place of every 65,536th line.
+/// The position of every 65,536th line is stored.
 const STEP: u64 = 65_536;
 
-/// The form of a line.
+/// How a line is converted to a record.
 #[derive(Drop)]
 pub enum Form {
     /// A JSON object.
     Json,
-    /// The value of the field of this name.
+    /// A line is the value of the field with this name.
     Text(Vec<u8>),
 }
 
-/// A file of lines, each of which is a record. Lines that are appended after it was opened are not read.
+/// A file in which each line is a record. Lines that are appended after the file was opened are not read.
 #[derive(Drop)]
 pub struct Lines<F: ByteFile + Drop> {
     reader: LineReader<F>,
     form: Form,
-    /// The place of each line whose number, counted from 0, is a multiple of `STEP`.
+    /// The position of each line whose number is a multiple of `STEP`. Line numbers start at 0.
     places: Vec<Place>,
-    /// The line that was read last; its buffer is reused for the next one.
+    /// The last line that was read. Its buffer is reused for the next line.
     line: Vec<u8>,
     scratch: Scratch,
-    /// How many lines there are.
+    /// The number of lines.
     pub count: u64,
-    /// Whether a line without a line end is after them.
+    /// Whether there are bytes after the last line end.
     pub is_torn: bool,
-    /// The error of the last read that failed.
+    /// The error of the last failed read.
     pub fault: Option<Error>,
     ghost placed: { ForSome (F.bytes reader.file) (λ all. All (IsPlace all) places.items) },
     ghost counted: { ForSome (F.bytes reader.file) (λ all. count ≡ length (lines_of all)) },
@@ -48,7 +48,7 @@ pub struct Lines<F: ByteFile + Drop> {
 }
 
 impl<F: ByteFile + Drop> Lines<F> {
-    /// Counts the lines of this file.
+    /// Counts the lines of `file`.
     pub fn new(alloc: Global, file: F, form: Form) -> Result<Lines<F>>
         ensures file { IfOk result (λ lines. F.bytes lines.reader.file ≡ F.bytes file) }
         ensures form { IfOk result (λ lines. lines.form ≡ form) }
@@ -69,7 +69,7 @@ impl<F: ByteFile + Drop> Lines<F> {
         })
     }
 
-    /// At most `most` records, from the one of this number on, counted from 0.
+    /// Reads at most `most` records, starting at the line with the given number. Line numbers start at 0.
     fn read_from(&mut self, alloc: Global, behind: u64, most: usize) -> Result<Vec<Record>>
         ensures file { F.bytes self.new.reader.file ≡ F.bytes self.old.reader.file }
         ensures form { self.new.form ≡ self.old.form }
@@ -111,7 +111,7 @@ impl<F: ByteFile + Drop> Source for Lines<F> {
     fn read_ahead(&mut self, _alloc: Global, _behind: u64, _most: usize) {}
 }
 
-/// Passes over all lines, and returns places.
+/// Passes over all lines, and returns the positions to store.
 fn find_places<F: ByteFile + Drop>(alloc: Global, reader: &mut LineReader<F>) -> Result<Vec<Place>>
     ensures file { F.bytes reader.new.file ≡ F.bytes reader.old.file }
     ensures places { IfOk result (λ places. ForSome (F.bytes reader.new.file) (λ all.
@@ -132,7 +132,7 @@ fn find_places<F: ByteFile + Drop>(alloc: Global, reader: &mut LineReader<F>) ->
     bail!("the file has no end")
 }
 
-/// Stores the place if its number is a multiple of `STEP`.
+/// Stores the position if its line number is a multiple of `STEP`.
 fn store_place(places: &mut Vec<Place>, place: Place) -> Result<(), AllocError>
     ensures { OnOk result ((places.new.items ≡ places.old.items)
         ⊎ (places.new.items ≡ places.old.items ++ place ∷ [])) }
@@ -143,7 +143,7 @@ fn store_place(places: &mut Vec<Place>, place: Place) -> Result<(), AllocError>
     Ok(())
 }
 
-/// Seeks to the line of this number, counted from 0.
+/// Moves to the line with the number `number`. Line numbers start at 0.
 fn seek_line<F: ByteFile + Drop>(
     reader: &mut LineReader<F>,
     places: &[Place],
@@ -198,7 +198,7 @@ fn read_records<F: ByteFile + Drop>(
     Ok(records)
 }
 
-/// The record of the line with this number.
+/// Returns the record of the line with this number.
 fn parse_record(
     alloc: Global,
     form: &Form,
@@ -220,7 +220,7 @@ fn parse_record(
     }
 }
 
-/// A record of one field.
+/// Returns a record with one field.
 fn make_text_record(alloc: Global, name: &Vec<u8>, value: &[u8]) -> Result<Record, AllocError>
     ensures { IfOk result (λ r. fields_of r ≡ (name.now.items, value.now) ∷ []) }
 {

@@ -4,16 +4,20 @@
 //! bash -c 'exec 3<>/dev/tcp/127.0.0.1/6379; stream_fill orders orders.txt <&3 >&3'
 //! ```
 //!
-//! The line k is a record with the id `(base + k)-0` and one field, which is named `line` or by `--field`. With
-//! `--json` each line is an object of texts, `{"name":"value",..}`, or a line that `stream_drain --json` wrote, with
-//! the same fields; a text that is not UTF-8 is `{"base64":".."}` there. Batches have `--batch` records, 1,000 by
-//! default. With `--wait REPLICAS MS` each batch waits for REPLICAS replicas, at most MS milliseconds. It stores
-//! nothing on disk: it reads from the server how many of the lines are added, and goes on after them. So after any
-//! failure call it again with the same arguments.
+//! The line k is a record with the id `(base + k)-0` and one field. The field's name is `line`, or the name
+//! that `--field` gives. With `--json` each line is an object of texts, `{"name":"value",..}`, or a line that
+//! `stream_drain --json` wrote, with the same fields. There a text that is not UTF-8 is written as
+//! `{"base64":".."}`.
 //!
-//! It prints its counts on standard error at the end. The exit status is 0 if all lines are added, 2 if an argument is
-//! wrong, and else 1 with the reason. A last line without a line end is not added, and is such a reason. `--help`
-//! prints its arguments.
+//! A batch has `--batch` records, 1,000 by default. With `--wait REPLICAS MS` each batch waits for REPLICAS
+//! replicas, at most MS milliseconds.
+//!
+//! The program stores nothing on disk. It reads from the server how many of the lines are added, and continues
+//! after them. Therefore after any failure call the program again with the same arguments.
+//!
+//! At the end the program prints its counts on standard error. The exit status is 0 if all lines are added, and
+//! 2 if an argument is invalid. Otherwise it is 1, and the reason is printed. A last line without a line end is
+//! not added, and is such a reason. `--help` prints the arguments.
 #![tactic(auto)]
 
 ghost use Rattle.std.specs.Prelude.{◌≡◌, ◌≢◌, ◌≤◌, ◌⊎◌, IfOk, IfSome, IsErr, IsOk, IsTrue, OnErr, OnOk, false, map, string_bytes};
@@ -59,8 +63,9 @@ fn main(rt: HostRuntime) -> Result<ExitCode> {
     run_by_words(&rt, &rt, &words, &mut connection)
 }
 
-/// Fills over this connection, from a file of these files, as the words say. Returns the exit status: 0 if all lines are
-/// added, or the words ask for the help; 2 if they are wrong; else 1, or an error.
+/// Parses `words` as the command line, and fills the stream from the file that they name. Returns the exit
+/// status 0 if all lines are added, or if the arguments ask for the help. The status is 2 if the arguments are
+/// invalid. Any other failure is returned as an error.
 fn run_by_words<
     R: Read + Drop,
     W: Write + Drop,
@@ -82,7 +87,7 @@ fn run_by_words<
     }
 }
 
-/// The exit status: 0 exactly if all lines are added, and else the error.
+/// Returns the exit status 0 if all lines are added, and else the error.
 fn choose_exit(alloc: Global, outcome: Result<()>) -> Result<ExitCode>
     ensures all { OnOk outcome (IfOk result (λ code. exit_status code ≡ 0)) }
     ensures given { OnOk outcome (IsOk result) }
@@ -94,7 +99,8 @@ fn choose_exit(alloc: Global, outcome: Result<()>) -> Result<ExitCode>
     }
 }
 
-/// An error that may be shown: a control character, which could steer a terminal, is `?` in its text.
+/// Returns the error for display. Each control character in its text becomes `?`, since it could control a
+/// terminal.
 fn mask_error(alloc: Global, error: Error) -> Error {
     match mask_text(alloc, &error) {
         Ok(Some(text)) => Error::msg(text),
@@ -102,7 +108,8 @@ fn mask_error(alloc: Global, error: Error) -> Error {
     }
 }
 
-/// The text of an error that has a control character in it, masked.
+/// Returns the text of an error with `?` for each control character. Returns `None` if the text has no control
+/// character.
 fn mask_text(alloc: Global, error: &Error) -> Result<Option<String>, AllocError> {
     let text = format!(in alloc; "{error}")?;
     if !text.chars().any(char::is_control) {
@@ -115,7 +122,7 @@ fn mask_text(alloc: Global, error: &Error) -> Result<Option<String>, AllocError>
     Ok(Some(shown))
 }
 
-/// The arguments of the program.
+/// Returns the arguments of the program.
 fn read_arguments(rt: &HostRuntime) -> Result<Vec<String>> {
     let mut words = Vec::new(rt.alloc());
     for word in env::args(rt)?.skip(1) {
@@ -124,7 +131,7 @@ fn read_arguments(rt: &HostRuntime) -> Result<Vec<String>> {
     Ok(words)
 }
 
-/// Fills by these options, over this connection, from the file of their path.
+/// Fills the stream with these options from the file at their path.
 fn fill_by<
     R: Read + Drop,
     W: Write + Drop,
@@ -151,12 +158,12 @@ fn fill_by<
     let settings = apply_trim(settings, trim);
     let based = find_settings(alloc, files, connection, settings, path, is_onto)?;
     let ended = fill_with(rt, connection, based.settings, &mut lines, wait, is_onto);
-    // Until here no other run has the file of the base open.
+    // No other run can open the file of the base before this point.
     drop(based.kept);
     ended
 }
 
-/// Opens the file of this path, which has lines.
+/// Opens the file with the lines.
 fn open_lines<F: ByteFile, D: LogFile, O: Open<F, D>>(files: &O, path: &str) -> Result<F>
     ensures { IfOk result (λ file. F.bytes file ≡ O.content files.now path.now) }
 {
@@ -166,7 +173,7 @@ fn open_lines<F: ByteFile, D: LogFile, O: Open<F, D>>(files: &O, path: &str) -> 
     }
 }
 
-/// Adds these lines over this connection, and shows the counts. A last line without a line end is an error.
+/// Adds the lines, and shows the counts. A last line without a line end is an error.
 fn fill_with<R: Read + Drop, W: Write + Drop, F: ByteFile + Drop, T: Eprint + AllocGlobal>(
     rt: &T,
     connection: &mut Connection<R, W>,
@@ -202,8 +209,8 @@ fn fill_with<R: Read + Drop, W: Write + Drop, F: ByteFile + Drop, T: Eprint + Al
     Ok(())
 }
 
-/// The error that not all lines were added. If records were not read, it is the fault of the file. If the stream has
-/// other entries, the error names `--onto`, unless it was given.
+/// Returns the error for lines that were not added. If records could not be read, it is the error of the file.
+/// If the stream has entries of another writer, the error suggests `--onto`, unless the option was given.
 fn explain_error(error: FillError, fault: Option<Error>, is_onto: bool) -> Error
     ensures { error ≡ FillError.Round (ConfirmedError.Round (RunError.Request RequestError.NotRead))
         → IfSome fault (λ f. result ≡ f) }

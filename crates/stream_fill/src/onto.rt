@@ -1,4 +1,4 @@
-//! The base of a run: that of its words, or with `--onto` the one that the file FILE.onto keeps.
+//! The base of a run: the value of `--base` or, with `--onto`, the base in the file FILE.onto.
 ghost use Rattle.std.specs.Prelude.{◌≡◌, ◌⊎◌, ◌++◌, IfOk, OnErr, codes, string_bytes};
 ghost use Rattle.stream_fill.specs.Program.{AsksLast, HasFoundBase, StartsAt, StopsAtBase};
 
@@ -12,14 +12,14 @@ use std::io::{ErrorKind, Read, Write};
 use worker_journal::{LogError, LogFile};
 use worker_producer::Settings;
 
-/// The settings of a session, and the file of its base. As long as it is open, no other run opens it.
+/// The settings of a session, and the file with its base. While the file is open, no other run can open it.
 #[derive(Drop)]
 pub struct Based<D: LogFile + Drop> {
     pub settings: Settings,
     pub kept: Option<D>,
 }
 
-/// Finds the settings of a session: with `--onto` they have the base that is found by the file FILE.onto.
+/// Returns the settings of a session. With `--onto` their base is in the file FILE.onto, or is written to it.
 pub fn find_settings<
     R: Read + Drop,
     W: Write + Drop,
@@ -54,7 +54,7 @@ pub fn find_settings<
     })
 }
 
-/// The path of the file that keeps the base: FILE.onto.
+/// Returns the path of the file with the base: FILE.onto.
 fn kept_path(alloc: Global, path: &str) -> Result<String, AllocError>
     ensures { IfOk result (λ kept. string_bytes kept ≡ path.now ++ codes ".onto") }
 {
@@ -63,7 +63,7 @@ fn kept_path(alloc: Global, path: &str) -> Result<String, AllocError>
     Ok(kept)
 }
 
-/// Opens the file of the base, for lines that are added after the stream's entries.
+/// Opens the file with the base.
 fn open_kept<F: ByteFile, D: LogFile, O: Open<F, D>>(files: &O, path: &str) -> Result<D>
     ensures { IfOk result (λ file. D.seen file ≡ O.content files.now path.now) }
 {
@@ -76,7 +76,7 @@ fn open_kept<F: ByteFile, D: LogFile, O: Open<F, D>>(files: &O, path: &str) -> R
     }
 }
 
-/// The settings with the base that is found by this file.
+/// Returns the settings with the base that is in `file`, or is written to it.
 fn use_kept_base<D: LogFile, R: Read + Drop, W: Write + Drop>(
     alloc: Global,
     settings: Settings,
@@ -94,7 +94,7 @@ fn use_kept_base<D: LogFile, R: Read + Drop, W: Write + Drop>(
     }
 }
 
-/// The error that no base was found by the file of this path.
+/// Returns the error that there is no base. `path` is the path of the file for the base.
 fn explain_no_base(error: BaseError, path: &str) -> Error {
     match error {
         BaseError::OtherFile => anyhow!("{path} keeps no base of this stream"),

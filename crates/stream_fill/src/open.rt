@@ -1,4 +1,4 @@
-//! The files of a system, as a source of the files of a run.
+//! Opening the files of a run.
 ghost use Rattle.std.specs.Prelude.{◌≡◌, List, None, Option, ℕ, IfOk};
 
 use crate::byte_file::ByteFile;
@@ -6,16 +6,16 @@ use std::fs::File;
 use std::io;
 use worker_journal::{LogError, LogFile, SystemFile};
 
-/// What opens the files of paths: those that have lines, and those that keep a base.
+/// Opens files by their paths: files with lines, and files with a base.
 pub trait Open<F: ByteFile, D: LogFile> {
-    /// The bytes of the file of this path, if they are known.
+    /// The bytes of the file at this path, if they are known.
     ghost content: { Self → List ℕ → Option (List ℕ) };
 
-    /// Opens the file of this path, which has lines.
+    /// Opens the file with lines at `path`.
     fn open_lines(&self, path: &str) -> io::Result<F>
         ensures { IfOk result (λ file. F.bytes file ≡ content self.now path.now) };
 
-    /// Opens the file of this path, which keeps a base, and creates it if it does not exist.
+    /// Opens the file with a base at `path`, and creates it if it does not exist.
     fn open_kept(&self, path: &str) -> Result<D, LogError>
         ensures { IfOk result (λ file. D.seen file ≡ content self.now path.now) };
 }

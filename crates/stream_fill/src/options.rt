@@ -20,15 +20,16 @@ use worker_producer::Settings;
 /// The options of the program.
 #[derive(Drop)]
 pub struct Options {
-    /// The stream, the base and the most records at once. They trim nothing yet.
+    /// The stream, the base and the largest number of records in a batch. These settings do not trim the
+    /// stream.
     pub settings: Settings,
-    /// How each XADD trims the stream, if it does.
+    /// How each XADD trims the stream, or `None` if it does not.
     pub trim: Option<StreamTrimStrategy>,
     pub path: String,
     pub form: Form,
     /// Whether the lines are added after the stream's entries.
     pub is_onto: bool,
-    /// This number of replicas must confirm each batch.
+    /// The number of replicas that must confirm each batch, and how long to wait for them.
     pub wait: Option<Wait>,
 }
 
@@ -57,7 +58,7 @@ const MINID: &str = "Each XADD keeps the entries from this id on, as its MINID";
 const APPROXIMATE: &str =
     "With --maxlen or --minid: as XADD's ~, it may keep somewhat more, which is faster";
 
-/// The options of these words, as clap reads them. If the words do not say so, they are refused.
+/// Parses the arguments with clap. Returns an error if the arguments do not specify the parsed options.
 pub fn options_of(alloc: Global, words: &[String]) -> Result<Options, Error>
     ensures least { IfOk result (λ _. 2 ≤ length words.now) }
     ensures said { IfOk result (λ options. AreOptionsOf (map string_bytes words.now) options) }
@@ -72,7 +73,7 @@ pub fn options_of(alloc: Global, words: &[String]) -> Result<Options, Error>
     Ok(options)
 }
 
-/// The options of a command line, by its matches.
+/// Returns the options that clap found in the arguments.
 fn options_in(
     alloc: Global,
     command: &mut Command<'_>,
@@ -115,7 +116,7 @@ fn command_of<'a>(alloc: Global) -> Result<Command<'a>, AllocError> {
         .arg(wait(alloc, help))
 }
 
-/// The form of a line.
+/// Returns the form of the lines.
 fn read_form(alloc: Global, matches: &ArgMatches<'_>) -> Result<Form, AllocError>
     ensures { IfOk result (λ form. HasForm (found_of matches.now) form) }
 {
@@ -126,7 +127,7 @@ fn read_form(alloc: Global, matches: &ArgMatches<'_>) -> Result<Form, AllocError
     Ok(Form::Text(field.into_bytes()))
 }
 
-/// The settings in a command line: those of KEY, `--base` and `--batch`.
+/// Returns the settings: the values of KEY, `--base` and `--batch`.
 fn settings_of(
     alloc: Global,
     command: &mut Command<'_>,
@@ -143,7 +144,7 @@ fn settings_of(
     }
 }
 
-/// The settings with the trimming of each XADD, if any.
+/// Returns the settings with the trimming of each XADD, if any.
 pub fn apply_trim(settings: Settings, trim: Option<StreamTrimStrategy>) -> Settings
     ensures { result ≡ trimmed trim settings }
 {
@@ -153,7 +154,7 @@ pub fn apply_trim(settings: Settings, trim: Option<StreamTrimStrategy>) -> Setti
     }
 }
 
-/// The trimming of each XADD in a command line, if any.
+/// Returns the trimming of each XADD, if the arguments specify any.
 fn trim_of(
     alloc: Global,
     command: &mut Command<'_>,
@@ -165,7 +166,7 @@ fn trim_of(
     read_trim(alloc, command, matches, mode)
 }
 
-/// The trimming mode of `--maxlen` and `--minid`, exact or approximate.
+/// Returns the trimming mode, exact or approximate.
 fn mode_of(matches: &ArgMatches<'_>) -> StreamTrimmingMode
     ensures { HasMode (found_of matches.now) result }
 {
@@ -176,7 +177,7 @@ fn mode_of(matches: &ArgMatches<'_>) -> StreamTrimmingMode
     }
 }
 
-/// The trimming of each XADD, if any: by `--maxlen` or `--minid`, in this mode.
+/// Returns the trimming of each XADD in this mode, by `--maxlen` or `--minid`, if one of them is given.
 fn read_trim(
     alloc: Global,
     command: &mut Command<'_>,
@@ -207,7 +208,7 @@ fn read_trim(
     Ok(None)
 }
 
-/// A length that MAXLEN accepts: below 2^63.
+/// Parses a length that MAXLEN accepts: a number below 2^63.
 fn parse_length(word: &str) -> Option<usize>
     ensures { IfSome result (λ len. len ≡ number_of word.now) }
 {
@@ -218,7 +219,7 @@ fn parse_length(word: &str) -> Option<usize>
     Some(len)
 }
 
-/// Whether a word is an id: a number, or two with a hyphen between.
+/// Whether an argument is an id: a number, or two numbers with a hyphen between them.
 fn is_id(word: &str) -> bool {
     match word.split_once('-') {
         Some((first, second)) => is_number(first) && is_number(second),
@@ -226,7 +227,7 @@ fn is_id(word: &str) -> bool {
     }
 }
 
-/// Whether a word is a number of 64 bits, in digits alone.
+/// Whether an argument is a number of 64 bits, with digits only.
 fn is_number(word: &str) -> bool {
     word.parse::<u64>().is_ok() && !word.starts_with('+')
 }

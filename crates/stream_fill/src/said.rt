@@ -1,4 +1,4 @@
-//! Whether options are what the words of a command line say.
+//! Checks that the parsed options match the values of the command line.
 ghost use Rattle.std.specs.Prelude.{◌≡◌, ◌∷◌, [], IfOk, IsTrue, None, Some, if◌then◌else◌, map, option_map, string_bytes};
 ghost use Rattle.clap.specs.Words.{found_of};
 ghost use Rattle.command_lines.specs.Numbers.{number_of};
@@ -14,7 +14,7 @@ use command_lines::{Arity, Line, last_of, says_number, says_wait};
 use std::alloc::{AllocError, Global};
 use stream_options::{StreamTrimStrategy, StreamTrimmingMode};
 
-/// How many values each option of the program has.
+/// The number of values of each option of the program.
 pub struct OptionArity;
 
 impl Arity for OptionArity {
@@ -29,7 +29,7 @@ impl Arity for OptionArity {
     }
 }
 
-/// Whether a line says these options, which are those of the matches.
+/// Whether `line` specifies `options`, given that `options` match `matches`.
 pub fn says(
     alloc: Global,
     line: &Line<'_>,
@@ -54,7 +54,7 @@ pub fn says(
     Ok(true)
 }
 
-/// Whether these names are KEY and FILE.
+/// Whether the names are KEY and FILE of `options`.
 fn are_names(names: &[&str], options: &Options) -> bool
     ensures { IsTrue result → map (λ name. name.now) names.now
         ≡ string_bytes options.now.settings.key ∷ string_bytes options.now.path ∷ [] }
@@ -65,7 +65,7 @@ fn are_names(names: &[&str], options: &Options) -> bool
     }
 }
 
-/// Whether each line has the form that a command line says.
+/// Whether `form` is the form that the line specifies.
 fn says_form(alloc: Global, line: &Line<'_>, form: &Form) -> Result<bool, AllocError>
     ensures { IfOk result (λ says. IsTrue says → name_in form.now ≡ name_said (texts_of line.now)) }
 {
@@ -73,7 +73,7 @@ fn says_form(alloc: Global, line: &Line<'_>, form: &Form) -> Result<bool, AllocE
     Ok(has_form(form, line.has("--json"), last_of(&names, "line")))
 }
 
-/// Whether each line is JSON, or else the value of the field of this name.
+/// Whether `form` is JSON if `is_json` is true, and else the value of the field `name`.
 fn has_form(form: &Form, is_json: bool, name: &str) -> bool
     ensures { IsTrue result → name_in form.now ≡ (if is_json then None else Some name.now) }
 {
@@ -83,7 +83,7 @@ fn has_form(form: &Form, is_json: bool, name: &str) -> bool
     }
 }
 
-/// Whether each XADD trims as a line says.
+/// Whether `trim` is the trimming that the line specifies.
 fn says_trim(
     alloc: Global,
     line: &Line<'_>,
@@ -97,14 +97,15 @@ fn says_trim(
     Ok(trims(trim, is_about, last_value(&lengths), last_value(&ids)))
 }
 
-/// The last of these values, if there is one.
+/// Returns the last value, or `None` if there are no values.
 fn last_value<'a>(values: &[&'a str]) -> Option<&'a str>
     ensures { option_map (λ v. v.now) result ≡ last_value (map (λ v. v.now) values.now) }
 {
     values.last().copied()
 }
 
-/// Whether each XADD keeps as many entries as the first word says, or else those from the id of the second.
+/// Whether `trim` keeps `length` entries, or else the entries from `id` on. Without both, whether there is no
+/// trimming.
 fn trims(
     trim: &Option<StreamTrimStrategy>,
     is_about: bool,
@@ -121,7 +122,7 @@ fn trims(
     }
 }
 
-/// Whether each XADD keeps as many entries as this word says.
+/// Whether `trim` keeps as many entries as `word` specifies.
 fn keeps_length(trim: &Option<StreamTrimStrategy>, is_about: bool, word: &str) -> bool
     ensures { IsTrue result → option_map strategy_of trim.now
         ≡ Some (unlimited (max_len (mode_if is_about) (number_of word.now))) }
@@ -135,7 +136,7 @@ fn keeps_length(trim: &Option<StreamTrimStrategy>, is_about: bool, word: &str) -
     }
 }
 
-/// Whether each XADD keeps the entries from the id of this word on.
+/// Whether `trim` keeps the entries whose ids are not below the id `word`.
 fn keeps_from(trim: &Option<StreamTrimStrategy>, is_about: bool, word: &str) -> bool
     ensures { IsTrue result → option_map strategy_of trim.now
         ≡ Some (unlimited (min_id (mode_if is_about) word.now)) }
@@ -146,7 +147,7 @@ fn keeps_from(trim: &Option<StreamTrimStrategy>, is_about: bool, word: &str) -> 
     id.as_str() == word && is_mode(mode, is_about)
 }
 
-/// Whether a mode is the approximate one, or else the exact one.
+/// Whether the mode is approximate if `is_about` is true, and else exact.
 fn is_mode(mode: &StreamTrimmingMode, is_about: bool) -> bool
     ensures { IsTrue result → mode_of mode.now ≡ mode_if is_about }
 {
