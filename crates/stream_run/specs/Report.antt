@@ -6,7 +6,7 @@ abbrev pub counts_text : ℕ → ℕ → ℕ → List ℕ
 counts_text entries batches left =
     codes "done " ++ decimal entries ++ codes ", batches " ++ decimal batches ++ codes ", left pending " ++ decimal left
 
--- and the number of dead letters, if any may be sent
+-- the counts, and the number of dead letters unless `letters` is `None`
 abbrev pub report_text : ℕ → ℕ → ℕ → Option ℕ → List ℕ
 report_text entries batches left None = counts_text entries batches left
 report_text entries batches left (Some letters) =

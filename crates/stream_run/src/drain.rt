@@ -1,4 +1,4 @@
-//! The loop of the program: it sends commands and takes the replies.
+//! The loop of the program: it sends commands and receives the replies.
 ghost use Rattle.std.specs.Prelude.{◌≡◌, ◌≤◌, ◌⊎◌, IfErr, IfOk, IfSome, IsTrue, None, OnErr, OnOk, false, option_map, string_bytes};
 ghost use Rattle.worker.specs.DeadLetters.Besides.{Besides, BreaksBesides, GivesUpNow};
 ghost use Rattle.worker.specs.DeadLetters.Dead.{searcher_of};
@@ -26,7 +26,8 @@ const LARGEST: &str = "1 GiB";
 /// The limit on the values of a reply, as in `Limits::default`.
 const MOST: &str = "16,777,216";
 
-/// How a drain ended: with a reply `stop`, or with a read that returned no new entries. Only `drain` makes one.
+/// Proof that a drain ended with a reply `stop`, or with a read that returned no new entries. Only `drain`
+/// creates one.
 #[derive(Clone, Copy)]
 pub struct Drained {
     /// The last turn.
@@ -36,14 +37,14 @@ pub struct Drained {
 /// A turn of the loop.
 #[derive(Clone, Copy)]
 struct TurnMade {
-    /// The command that was sent last in it.
+    /// The last command that was sent in the turn.
     asked: Asked,
-    /// How many entries the handler had seen before it.
+    /// The number of entries that the handler had received before the turn.
     before: u64,
 }
 
-/// Drains until something fails, until the child replies `stop`, or, with `until_empty`, until a read returns no new
-/// entries.
+/// Drains until an error occurs or the child replies `stop`. With `until_empty`, also ends when a read returns
+/// no new entries.
 pub fn drain<
     R: Read + Drop,
     W: Write + Drop,
@@ -87,8 +88,9 @@ pub fn drain<
     Err(anyhow!("the last turn came").into())
 }
 
-/// Searches for entries to give up, makes a round, or two in one write, and sends the entries that the replies add. Then
-/// it shows the texts of the child, gives up the entries whose reply is `dead`, and counts.
+/// Makes one turn. Searches for entries to give up, makes one round or two rounds in one write, and sends the
+/// entries that the replies add. Then shows the child's texts, gives up the entries with the reply `dead`, and
+/// counts.
 fn turn<
     R: Read + Drop,
     W: Write + Drop,
@@ -141,7 +143,7 @@ fn turn<
     })
 }
 
-/// Searches for entries that were delivered too often, if they are given up.
+/// Searches for entries that were delivered too often, if a search is given.
 fn look<R: Read + Drop, W: Write + Drop>(
     alloc: Global,
     connection: &mut Connection<R, W>,
@@ -165,7 +167,8 @@ fn look<R: Read + Drop, W: Write + Drop>(
     }
 }
 
-/// Sends the entries that the replies add. Before the server has replied to each, nothing of the batch is acknowledged.
+/// Sends the entries that the replies add. No entry of the batch is acknowledged before the server has replied
+/// to each command.
 fn send_added<R: Read + Drop, W: Write + Drop, C: SteadyRead + Drop, D: SteadyWrite + Drop>(
     alloc: Global,
     connection: &mut Connection<R, W>,
@@ -182,7 +185,8 @@ fn send_added<R: Read + Drop, W: Write + Drop, C: SteadyRead + Drop, D: SteadyWr
     }
 }
 
-/// Gives up each entry whose reply is `dead`, if there is a stream of dead letters, with the text of the reply.
+/// Gives up each entry with the reply `dead`, if there is a stream of dead letters. The dead letter contains
+/// the text of the reply.
 fn give_up_dead<R: Read + Drop, W: Write + Drop>(
     alloc: Global,
     connection: &mut Connection<R, W>,
@@ -200,7 +204,7 @@ fn give_up_dead<R: Read + Drop, W: Write + Drop>(
     }
 }
 
-/// Gives up each entry whose reply is `dead`, in order.
+/// Gives up each entry with the reply `dead`, in order.
 fn give_up_each<R: Read + Drop, W: Write + Drop>(
     alloc: Global,
     connection: &mut Connection<R, W>,
@@ -220,7 +224,7 @@ fn give_up_each<R: Read + Drop, W: Write + Drop>(
     Ok(())
 }
 
-/// Gives up the entry of a note, with its text.
+/// Gives up the entry of a note. The dead letter contains the text of the note.
 fn give_up<R: Read + Drop, W: Write + Drop>(
     alloc: Global,
     connection: &mut Connection<R, W>,
@@ -240,9 +244,10 @@ fn give_up<R: Read + Drop, W: Write + Drop>(
     }
 }
 
-/// Makes a round, or two in one write if that is allowed.
+/// Makes a round. If `together` is true, makes two rounds in one write where possible.
 ///
-/// It is not allowed if entries are given up: these are searched for between an acknowledgement and a claim.
+/// If entries are given up, `together` must be false, since the search for them is between an acknowledgement
+/// and a claim.
 fn round<R: Read + Drop, W: Write + Drop, C: SteadyRead + Drop, D: SteadyWrite + Drop>(
     alloc: Global,
     connection: &mut Connection<R, W>,
@@ -272,7 +277,7 @@ fn round<R: Read + Drop, W: Write + Drop, C: SteadyRead + Drop, D: SteadyWrite +
     }
 }
 
-/// A round with a write of its own, as a `Pipelined`.
+/// Converts a round with a write of its own to a `Pipelined`.
 fn wrap_round(round: Round) -> Pipelined
     ensures { result ≡ record { acknowledged = false; round = round } }
 {
@@ -282,7 +287,7 @@ fn wrap_round(round: Round) -> Pipelined
     }
 }
 
-/// Makes one more round after the last entry, if something is done and not acknowledged.
+/// Makes one more round after the last entry, if some entries are done and not acknowledged.
 fn settle<R: Read + Drop, W: Write + Drop, C: SteadyRead + Drop, D: SteadyWrite + Drop>(
     alloc: Global,
     connection: &mut Connection<R, W>,
@@ -311,7 +316,7 @@ fn settle<R: Read + Drop, W: Write + Drop, C: SteadyRead + Drop, D: SteadyWrite 
     }
 }
 
-/// Returns the error with which the handler stopped; Ok if the child replied `stop`.
+/// Returns the error with which the handler stopped. Returns `Ok` if the child replied `stop`.
 fn ended<C: SteadyRead + Drop, D: SteadyWrite + Drop>(
     alloc: Global,
     jobs: &Jobs<C, D>,
@@ -341,7 +346,7 @@ fn ended<C: SteadyRead + Drop, D: SteadyWrite + Drop>(
     }
 }
 
-/// The failure of a round.
+/// Returns the failure of a round.
 fn convert_run_error(error: RunError) -> Failure
     ensures { IsOfChild result → ⊥ }
 {
@@ -362,7 +367,7 @@ fn convert_run_error(error: RunError) -> Failure
     }
 }
 
-/// Shows each text that is not empty, with its entry.
+/// Shows each text that is not empty, with the id of its entry.
 fn show_notes<T: Eprint + AllocGlobal>(rt: &T, notes: &[Note]) -> Result<(), Error> {
     for note in notes {
         if note.text.is_empty() {
@@ -376,7 +381,8 @@ fn show_notes<T: Eprint + AllocGlobal>(rt: &T, notes: &[Note]) -> Result<(), Err
     Ok(())
 }
 
-/// Bytes as text, with `?` for each control character, and for bytes that are not UTF-8.
+/// Returns the bytes as text, with `?` for each control character. If they are not UTF-8, `?` replaces each
+/// byte that is not printable ASCII.
 fn mask_bytes(alloc: Global, bytes: &[u8]) -> Result<String, AllocError> {
     let Ok(text) = str::from_utf8(bytes) else {
         return mask_ascii(alloc, bytes);
@@ -388,7 +394,7 @@ fn mask_bytes(alloc: Global, bytes: &[u8]) -> Result<String, AllocError> {
     Ok(shown)
 }
 
-/// Bytes as text, with `?` for each byte that is not printable ASCII.
+/// Returns the bytes as text, with `?` for each byte that is not printable ASCII.
 fn mask_ascii(alloc: Global, bytes: &[u8]) -> Result<String, AllocError> {
     let mut shown = String::new(alloc);
     for byte in bytes {

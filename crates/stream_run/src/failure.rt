@@ -12,19 +12,19 @@ use worker::outbox::OutboxError;
 /// Why the program failed.
 #[derive(Debug, Drop, AnError)]
 pub enum Failure {
-    /// The child failed to reply, with this error.
+    /// The child sent no valid reply.
     #[error("{0}")]
     Child(Error),
     /// The pipes of the child could not be opened.
     #[error("cannot open the pipes of the other program: {0}")]
     Unopened(io::Error),
-    /// A round broke off.
+    /// A round failed.
     #[error("{0}")]
     Round(RunError),
-    /// The search for dead letters broke off.
+    /// The search for dead letters failed.
     #[error("{0}")]
     Search(SearchError),
-    /// An entry that a reply adds was not added.
+    /// An entry of a reply could not be added to its stream.
     #[error("cannot add an entry: {0}")]
     Outbox(OutboxError),
     /// Standard error failed, memory ran out, or the program could not start.

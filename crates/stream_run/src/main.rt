@@ -1,21 +1,25 @@
-//! Passes each entry of a stream to another program, in any language, for one consumer of a group, over a connection at
-//! its standard input and output. The other program, the child, reads lines from the pipe that is `/dev/fd/4` here, and
-//! writes lines to the one that is `/dev/fd/3`. `--lines` and `--replies` name other paths.
+//! Passes each entry of a stream to another program, the child, for one consumer of a group. The connection to
+//! the server is the standard input and output. The child may be in any language. It reads lines from the pipe
+//! that is `/dev/fd/4` here, and writes lines to the pipe that is `/dev/fd/3`. `--lines` and `--replies` give
+//! other paths.
 //!
-//! For each entry the child reads one line, `{"id":"1-0","fields":[["name","value"],..],"stream":"orders"}`, and writes
-//! one:
+//! For each entry the child reads one line, `{"id":"1-0","fields":[["name","value"],..],"stream":"orders"}`.
+//! Then it writes one line:
 //!
-//! - `done`: the entry is acknowledged, with the others of its batch;
-//! - `later` or `later TEXT`: it stays pending, and is claimed again after the idle time;
-//! - `dead TEXT`: with `--dead` it is given up at once, and its dead letter has the text; else as `later`;
-//! - `stop`: it stays pending, and the program ends with status 0;
-//! - `{"done":true,"add":[["results",{"id":"7"}]]}`: it is done, and entries are added to other streams before it is
-//!   acknowledged.
+//! - `done`: the entry is acknowledged together with the other entries of its batch.
+//! - `later` or `later TEXT`: the entry stays pending, and is claimed again after the idle time.
+//! - `dead TEXT`: with `--dead` the entry is given up at once, and its dead letter contains the text. Without
+//!   `--dead` the reply means `later TEXT`.
+//! - `stop`: the entry stays pending, and the program ends with status 0.
+//! - `{"done":true,"add":[["results",{"id":"7"}]]}`: the entry is done. Before it is acknowledged, entries are
+//!   added to other streams.
 //!
-//! An entry without the reply `done` is acknowledged only if it is given up. At the end it prints its counts on standard error. The exit
-//! status is 0 if the child replied `stop`, or if `--until-empty` is given and a read returned nothing new. It is 2 if
-//! an argument is wrong, 4 if the child sends no valid reply, and else 1 with the reason. `--help` prints its
-//! arguments.
+//! An entry that is not done is acknowledged only if it is given up. At the end the program prints its counts
+//! on standard error.
+//!
+//! The exit status is 0 if the child replied `stop`, or if `--until-empty` is given and a read returned nothing
+//! new. It is 2 if an argument is invalid, and 4 if the child sends no valid reply. Otherwise it is 1, and the
+//! reason is printed. `--help` prints the arguments.
 #![tactic(auto)]
 
 ghost use Rattle.std.specs.Prelude.{◌≡◌, ◌≤◌, ◌⊎◌, IfErr, IfOk, IsOk, IsTrue, OnErr, OnOk, map, option_map, string_bytes};
@@ -60,8 +64,9 @@ fn main(rt: HostRuntime) -> Result<ExitCode> {
     run_by_words(&rt, &rt, &words, &mut connection)
 }
 
-/// Drains over this connection, with a child at two of these pipes, as the words say. Returns the exit status: 0 if the
-/// loop ended as asked, or the words ask for the help; 2 if they are wrong; 4 if the child failed; else 1.
+/// Parses `words` as the command line, and passes the entries to the child at the pipes that they name. Returns
+/// the exit status 0 if the loop ended because of `stop` or `--until-empty`, or if the arguments ask for the
+/// help. The status is 2 if the arguments are invalid, 4 if the child failed, and else 1.
 fn run_by_words<
     R: Read + Drop,
     W: Write + Drop,
@@ -91,7 +96,8 @@ fn run_by_words<
     }
 }
 
-/// The exit status: 0, or that of a failure, which is shown on standard error with `?` for each control character.
+/// Returns the exit status: 0, or the status of the failure. Shows the failure on standard error, with `?` for
+/// each control character.
 fn end_with<T: Eprint + AllocGlobal>(rt: &T, ended: Result<Drained, Failure>) -> Result<ExitCode>
     ensures ok { OnOk ended (IfOk result (λ code. exit_status code ≡ 0)) }
     ensures child { IfErr ended (λ failure. IsOfChild failure → IfOk result (λ code. exit_status code ≡ 4)) }
@@ -108,7 +114,7 @@ fn end_with<T: Eprint + AllocGlobal>(rt: &T, ended: Result<Drained, Failure>) ->
     Ok(ExitCode::from(status))
 }
 
-/// The status of a failure: 4 if it is the child's, and else 1.
+/// Returns the exit status of a failure: 4 if the child failed, and else 1.
 fn choose_status(failure: &Failure) -> u8
     ensures child { IsOfChild failure.now → result ≡ 4 }
     ensures other { (IsOfChild failure.now → ⊥) → result ≡ 1 }
@@ -119,7 +125,7 @@ fn choose_status(failure: &Failure) -> u8
     }
 }
 
-/// The text with `?` for each control character.
+/// Replaces each control character by `?`.
 fn mask_controls(alloc: Global, text: &str) -> Result<String, AllocError> {
     let mut shown = String::new(alloc);
     for letter in text.chars() {
@@ -128,7 +134,7 @@ fn mask_controls(alloc: Global, text: &str) -> Result<String, AllocError> {
     Ok(shown)
 }
 
-/// The arguments of the program.
+/// Returns the arguments of the program.
 fn read_arguments(rt: &HostRuntime) -> Result<Vec<String>> {
     let mut words = Vec::new(rt.alloc());
     for word in env::args(rt)?.skip(1) {
@@ -137,7 +143,7 @@ fn read_arguments(rt: &HostRuntime) -> Result<Vec<String>> {
     Ok(words)
 }
 
-/// Drains by these options, over this connection, with the child at the pipes of their paths.
+/// Drains with these options and the child at the pipes of their paths.
 fn drain_by<
     R: Read + Drop,
     W: Write + Drop,
@@ -162,7 +168,7 @@ fn drain_by<
     drain_with(rt, connection, replies, lines, options)
 }
 
-/// Drains by these options, over this connection, with the child that writes these replies and reads these lines.
+/// Drains with these options and the child that writes `replies` and reads `lines`.
 fn drain_with<
     R: Read + Drop,
     W: Write + Drop,
@@ -192,7 +198,7 @@ fn drain_with<
     make_run(rt, connection, &mut jobs, &mut run)
 }
 
-/// The handler of the entries, before the first one.
+/// Creates the handler of the entries.
 fn begin_jobs<C: SteadyRead + Drop, D: SteadyWrite + Drop>(
     alloc: Global,
     settings: &Settings,
@@ -214,7 +220,7 @@ struct Run {
     until_empty: bool,
 }
 
-/// A run by these options.
+/// Creates a run with these options.
 fn begin_run(alloc: Global, options: Options) -> Result<Run>
     ensures worker { IfOk result (λ run. IsNew (settings_with options.dead options.settings) run.worker) }
     ensures dead { IfOk result (λ run. option_map searcher_of run.dead
@@ -267,7 +273,7 @@ fn make_run<
     ended
 }
 
-/// How many entries were given up, if any may be.
+/// Returns the number of entries that were given up, or `None` if entries are not given up.
 fn count_letters(dead: &Option<DeadLetterSearch>) -> Option<u64> {
     match dead {
         Some(dead) => Some(dead.letters()),
@@ -281,8 +287,8 @@ fn show_report<T: Eprint>(rt: &T, report: &Report) -> Result<()> {
     Ok(())
 }
 
-/// The search for entries that were delivered too often, if they are given up. Then entries that were delivered before
-/// are requested one at a time.
+/// Creates the search for entries that were delivered too often, if `to` is given. Then redelivered entries are
+/// requested one at a time.
 fn make_search(
     alloc: Global,
     settings: &mut Settings,

@@ -1,4 +1,4 @@
-//! The pipes of a child, and what opens them by their paths.
+//! Opening the pipes of a child by their paths.
 ghost use Rattle.std.specs.Prelude.{◌≡◌, List, None, Option, ℕ, IfOk};
 
 use crate::failure::Failure;
@@ -7,19 +7,19 @@ use std::fs::{File, OpenOptions};
 use std::io::BufReader;
 use worker_jobs::{SteadyRead, SteadyWrite};
 
-/// What opens the two pipes of a child.
+/// Opens the two pipes of a child.
 pub trait OpenPipes<C: SteadyRead, D: SteadyWrite> {
-    /// The bytes that come from the child out of the pipe of this path, if they are known.
+    /// The bytes that come from the child through the pipe at this path, if they are known.
     ghost coming: { Self → List ℕ → Option (List ℕ) };
 
-    /// The bytes that the pipe of this path to the child holds, if they are known.
+    /// The bytes in the pipe to the child at this path, if they are known.
     ghost held: { Self → List ℕ → Option (List ℕ) };
 
-    /// Opens the pipe of this path, which the child writes to.
+    /// Opens the pipe at `path` that the child writes to.
     fn open_replies(&self, path: &str) -> Result<C, Failure>
         ensures { IfOk result (λ replies. C.remaining replies ≡ coming self.now path.now) };
 
-    /// Opens the pipe of this path, which the child reads from.
+    /// Opens the pipe at `path` that the child reads from.
     fn open_lines(&self, path: &str) -> Result<D, Failure>
         ensures { IfOk result (λ lines. D.contents lines ≡ held self.now path.now) };
 }

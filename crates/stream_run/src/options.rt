@@ -18,11 +18,11 @@ use worker::dead_letters::GiveUp;
 #[derive(Drop)]
 pub struct Options {
     pub settings: Settings,
-    /// Whether it ends when a read returns no new entries.
+    /// Whether the program ends when a read returns no new entries.
     pub until_empty: bool,
-    /// Entries that were delivered too often are moved to a stream of dead letters.
+    /// The stream of dead letters, and the number of deliveries after which an entry is moved there.
     pub dead: Option<GiveUp>,
-    /// The path of the pipe that the child reads from, and of the one that it writes to.
+    /// The path of the pipe that the child reads from, and the path of the pipe that it writes to.
     pub lines: String,
     pub replies: String,
 }
@@ -33,7 +33,7 @@ pub const LINES: &str = "/dev/fd/4";
 /// The default path of the pipe that the child writes to.
 pub const REPLIES: &str = "/dev/fd/3";
 
-/// The largest number of entries of one request.
+/// The largest number of entries that one command requests.
 pub const COUNT: Number = Number {
     name: "count",
     value: "ENTRIES",
@@ -43,7 +43,7 @@ pub const COUNT: Number = Number {
     usual: "10",
 };
 
-/// The options of these words, as clap reads them. If the words do not say so, they are refused.
+/// Parses the arguments with clap. Returns an error if the arguments do not specify the parsed options.
 pub fn options_of(alloc: Global, words: &[String]) -> Result<Options, Error>
     ensures least { IfOk result (λ _. 3 ≤ length words.now) }
     ensures said { IfOk result (λ options. AreOptionsOf (map string_bytes words.now) options) }
@@ -58,7 +58,7 @@ pub fn options_of(alloc: Global, words: &[String]) -> Result<Options, Error>
     Ok(options)
 }
 
-/// The options of a command line, by its matches.
+/// Returns the options that clap found in the arguments.
 fn options_in(
     alloc: Global,
     command: &mut Command<'_>,

@@ -4,21 +4,21 @@ ghost use Rattle.stream_run.specs.Report.{report_text};
 
 use std::fmt;
 
-/// Counts, which are shown at the end.
+/// The counts, which are shown at the end.
 #[derive(Clone, Copy)]
 pub struct Report {
-    /// How many entries were done and committed.
+    /// The number of entries that were done and committed.
     pub entries: u64,
-    /// In how many batches.
+    /// The number of batches with these entries.
     pub batches: u64,
-    /// How many replies left an entry pending.
+    /// The number of replies that left an entry pending.
     pub left: u64,
-    /// How many dead letters were sent; `None` if none are sent.
+    /// The number of dead letters that were sent. `None` if entries are not given up.
     pub letters: Option<u64>,
 }
 
 impl Report {
-    /// A report with all counts at 0.
+    /// Creates a report with all counts at 0.
     pub fn new() -> Report
         ensures { (result.entries ≡ 0) × (result.batches ≡ 0) × (result.left ≡ 0) × (result.letters ≡ None) }
     {
@@ -30,7 +30,7 @@ impl Report {
         }
     }
 
-    /// Counts a batch, and stores how many entries are done.
+    /// Counts a batch, and stores the number of entries that are done.
     pub fn count(&mut self, entries: u64)
         ensures { self.new.entries ≡ entries }
     {

@@ -1,4 +1,4 @@
-//! Whether options are what the words of a command line say.
+//! Checks that the parsed options match the values of the command line.
 ghost use Rattle.std.specs.Prelude.{◌≡◌, IfOk, IsTrue};
 ghost use Rattle.clap.specs.Words.{found_of};
 ghost use Rattle.command_lines.specs.Words.{texts_of};
@@ -9,7 +9,7 @@ use clap::ArgMatches;
 use command_lines::{Arity, Line, names_after, says_dead, says_settings, says_text};
 use std::alloc::{AllocError, Global};
 
-/// How many values each option of the program has.
+/// The number of values of each option of the program.
 pub struct OptionArity;
 
 impl Arity for OptionArity {
@@ -24,7 +24,7 @@ impl Arity for OptionArity {
     }
 }
 
-/// Whether a line says these options, which are those of the matches.
+/// Whether `line` specifies `options`, given that `options` match `matches`.
 pub fn says(
     alloc: Global,
     line: &Line<'_>,
@@ -50,7 +50,7 @@ pub fn says(
     Ok(true)
 }
 
-/// Whether a line says the paths of these pipes.
+/// Whether `line` specifies the paths of the pipes in `options`.
 fn says_pipes(alloc: Global, line: &Line<'_>, options: &Options) -> Result<bool, AllocError>
     ensures { IfOk result (λ says. IsTrue says → SaysPipes (texts_of line.now) options.now) }
 {
