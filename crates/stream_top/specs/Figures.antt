@@ -1,4 +1,4 @@
--- The figures of a stream, by the reply to XINFO STREAM FULL and the time of the server's clock.
+-- The figures of a stream, computed from the reply to `XINFO STREAM FULL` and the server's time.
 use Rattle.std.specs.Prelude.{ℕ, ◌-◌, ◌==◌, Bool, List, [], ◌∷◌, Option, None, map, fold, max, string_bytes}
 use Rattle.std.specs.Prelude.{option_and_then, option_map, if◌then◌else◌, nat_lt, length}
 use Rattle.std.specs.List.{before_first, position_or_len}
@@ -8,13 +8,13 @@ use Rattle.stream_top.specs.declared.figures.ConsumerFigures.{ConsumerFigures}
 use Rattle.stream_top.specs.declared.figures.GroupFigures.{GroupFigures}
 use Rattle.stream_top.specs.declared.figures.StreamFigures.{StreamFigures}
 
--- a consumer: how many entries are pending for it, and for how long it was not seen
+-- a consumer: the number of its pending entries, and the milliseconds since it was last seen
 pub record Consumer : Type 0 where
   pub name : List ℕ
   pub pending : ℕ
   pub idle : ℕ
 
--- a group: how far it has come, how much is pending in it and since when, and its consumers
+-- a group: its position in the stream, its pending entries, and its consumers
 pub record Group : Type 0 where
   pub name : List ℕ
   pub lag : Option ℕ
@@ -25,7 +25,7 @@ pub record Group : Type 0 where
   pub deliveries : ℕ
   pub consumers : List Consumer
 
--- a stream: how many entries it has, its last id, and its groups
+-- a stream: the number of its entries, its last id, and its groups
 pub record Stream : Type 0 where
   pub key : List ℕ
   pub length : ℕ
@@ -33,30 +33,30 @@ pub record Stream : Type 0 where
   pub last_time : Option ℕ
   pub groups : List Group
 
--- a hyphen
+-- whether the byte is a hyphen
 abbrev pub is_hyphen : ℕ → Bool
 is_hyphen c = c == 45
 
--- the milliseconds of an id, which are before the first hyphen
+-- the milliseconds of an id, before its first hyphen
 abbrev pub time_in : List ℕ → Option ℕ
 time_in id = if nat_lt (position_or_len is_hyphen id) (length id)
     then option_and_then (within 64) (unsigned_of (before_first is_hyphen id))
     else None
 
--- the milliseconds since the time in the id of the first pending entry
+-- the milliseconds from the time in the id of the first pending entry until `now`
 abbrev pub age_in : ℕ → List FullPending → Option ℕ
 age_in now [] = None
 age_in now (p ∷ ps) = option_map (λ time. now - time) (time_in p.id)
 
--- the largest delivery count of these entries
+-- the largest delivery count of the entries, or 0 if there are none
 abbrev pub most_in : List FullPending → ℕ
 most_in pending = fold (λ most p. max most p.times_delivered) 0 pending
 
--- the figures of a consumer at a time
+-- the figures of the consumer `c` at the time `now`
 abbrev pub consumer_figures : ℕ → FullConsumer → Consumer
 consumer_figures now c = record { name = c.name; pending = c.pending_count; idle = now - c.seen_time }
 
--- the figures of a group at a time
+-- the figures of the group `g` at the time `now`
 abbrev pub group_figures : ℕ → FullGroup → Group
 group_figures now g = record {
   name = g.name;
@@ -69,7 +69,7 @@ group_figures now g = record {
   consumers = map (consumer_figures now) g.consumers;
 }
 
--- the figures of a stream at a time
+-- the figures of the stream `s` at the time `now`
 abbrev pub stream_figures : List ℕ → ℕ → FullStream → Stream
 stream_figures key now s = record {
   key = key;
@@ -79,11 +79,11 @@ stream_figures key now s = record {
   groups = map (group_figures now) s.groups;
 }
 
--- what a record says of a consumer
+-- the figures in a `ConsumerFigures`
 abbrev pub consumer_meaning : ConsumerFigures → Consumer
 consumer_meaning c = record { name = string_bytes c.name; pending = c.pending; idle = c.idle }
 
--- what a record says of a group
+-- the figures in a `GroupFigures`
 abbrev pub group_meaning : GroupFigures → Group
 group_meaning g = record {
   name = string_bytes g.name;
@@ -96,7 +96,7 @@ group_meaning g = record {
   consumers = map consumer_meaning g.consumers.items;
 }
 
--- what a record says of a stream
+-- the figures in a `StreamFigures`
 abbrev pub stream_meaning : StreamFigures → Stream
 stream_meaning s = record {
   key = string_bytes s.key;

@@ -1,4 +1,4 @@
--- The text of OpenMetrics for the figures of streams.
+-- The OpenMetrics text with the figures of streams.
 use Rattle.std.specs.Prelude.{ℕ, ◌/◌, ◌%◌, ◌==◌, Bool, true, false, List, [], ◌∷◌, ◌++◌, Option, Some, None, codes, decimal}
 use Rattle.std.specs.Prelude.{flat_map, if◌then◌else◌, string_bytes}
 use Rattle.stream_top.specs.declared.figures.ConsumerFigures.{ConsumerFigures}
@@ -21,7 +21,7 @@ name_text MaxDeliveries = codes "redis_stream_group_max_deliveries"
 name_text ConsumerPending = codes "redis_stream_consumer_pending"
 name_text ConsumerIdle = codes "redis_stream_consumer_idle_seconds"
 
--- a space, the text for people, and the end of the line
+-- a space, the description for people, and the end of the line
 abbrev pub help_text : Metric → List ℕ
 help_text Length = codes " Entries in the stream.\n"
 help_text LastGenerated = codes " Time in the id that was generated last.\n"
@@ -33,7 +33,7 @@ help_text MaxDeliveries = codes " Deliveries of the pending entry that has most 
 help_text ConsumerPending = codes " Entries that are pending for the consumer.\n"
 help_text ConsumerIdle = codes " Time since the consumer was seen.\n"
 
--- the metric is a time, whose numbers are milliseconds
+-- whether the metric is a time, measured in milliseconds
 abbrev pub is_time : Metric → Bool
 is_time Length = false
 is_time LastGenerated = true
@@ -45,7 +45,7 @@ is_time MaxDeliveries = false
 is_time ConsumerPending = false
 is_time ConsumerIdle = true
 
--- the number of a stream, if the metric is of streams
+-- the number for a stream, if the metric is one of streams
 abbrev pub stream_number : Metric → StreamFigures → Option ℕ
 stream_number Length s = Some s.length
 stream_number LastGenerated s = s.last_time
@@ -57,7 +57,7 @@ stream_number MaxDeliveries s = None
 stream_number ConsumerPending s = None
 stream_number ConsumerIdle s = None
 
--- the number of a group, if the metric is of groups
+-- the number for a group, if the metric is one of groups
 abbrev pub group_number : Metric → GroupFigures → Option ℕ
 group_number Length g = None
 group_number LastGenerated g = None
@@ -69,7 +69,7 @@ group_number MaxDeliveries g = Some g.deliveries
 group_number ConsumerPending g = None
 group_number ConsumerIdle g = None
 
--- the number of a consumer, if the metric is of consumers
+-- the number for a consumer, if the metric is one of consumers
 abbrev pub consumer_number : Metric → ConsumerFigures → Option ℕ
 consumer_number Length c = None
 consumer_number LastGenerated c = None
@@ -90,7 +90,8 @@ seconds_text n = decimal (n / 1000)
 abbrev pub number_text : Metric → ℕ → List ℕ
 number_text m n = if is_time m then seconds_text n else decimal n
 
--- a backslash, a quote and a line feed as `\\`, `\"` and `\n`, the byte 0 as `\\x00`; other bytes as they are
+-- A backslash, a quote and a line feed are written as `\\`, `\"` and `\n`. The byte 0 is written as `\\x00`.
+-- Other bytes are unchanged.
 abbrev pub label_byte : ℕ → List ℕ
 label_byte b =
     if b == 92 then 92 ∷ 92 ∷ []
@@ -103,11 +104,11 @@ label_byte b =
 abbrev pub label_text : List ℕ → List ℕ
 label_text name = flat_map label_byte name
 
--- labels, and one more that begins so
+-- the labels, and one more label that begins with `begin` and has the value `name`
 unfoldable pub labelled : List ℕ → List ℕ → List ℕ → List ℕ
 labelled labels begin name = labels ++ (begin ++ (label_text name ++ 34 ∷ []))
 
--- a sample, if there is a number for it
+-- a sample, or nothing if there is no number
 unfoldable pub sample_text : Metric → List ℕ → Option ℕ → List ℕ
 sample_text m labels None = []
 sample_text m labels (Some n) = name_text m ++ 123 ∷ (labels ++ 125 ∷ 32 ∷ (number_text m n ++ 10 ∷ []))
@@ -116,19 +117,19 @@ sample_text m labels (Some n) = name_text m ++ 123 ∷ (labels ++ 125 ∷ 32 ∷
 abbrev pub stream_labels : StreamFigures → List ℕ
 stream_labels s = labelled [] (codes "stream=\"") (string_bytes s.key)
 
--- the labels of a group, after those of its stream
+-- the labels of a group: those of its stream in `above`, and its name
 abbrev pub group_labels : List ℕ → GroupFigures → List ℕ
 group_labels above g = labelled above (codes ",group=\"") (string_bytes g.name)
 
--- the labels of a consumer, after those of its group
+-- the labels of a consumer: those of its group in `above`, and its name
 abbrev pub consumer_labels : List ℕ → ConsumerFigures → List ℕ
 consumer_labels above c = labelled above (codes ",consumer=\"") (string_bytes c.name)
 
--- the sample of a consumer, under the labels of its group
+-- the sample of a consumer, with the labels of its group
 unfoldable pub consumer_samples : Metric → List ℕ → ConsumerFigures → List ℕ
 consumer_samples m above c = sample_text m (consumer_labels above c) (consumer_number m c)
 
--- the samples of a group and of its consumers, under the labels of its stream
+-- the samples of a group and its consumers, with the labels of its stream
 unfoldable pub group_samples : Metric → List ℕ → GroupFigures → List ℕ
 group_samples m above g = sample_text m (group_labels above g) (group_number m g)
     ++ flat_map (consumer_samples m (group_labels above g)) g.consumers.items
@@ -138,7 +139,7 @@ unfoldable pub stream_samples : Metric → StreamFigures → List ℕ
 stream_samples m s = sample_text m (stream_labels s) (stream_number m s)
     ++ flat_map (group_samples m (stream_labels s)) s.groups.items
 
--- the head of a metric: its type, its unit if it is a time, and a text for people
+-- the head of a metric: the type, the unit if it is a time, and the description
 unfoldable pub head_text : Metric → List ℕ
 head_text m = (codes "# TYPE " ++ (name_text m ++ codes " gauge\n"))
     ++ ((if is_time m then codes "# UNIT " ++ (name_text m ++ codes " seconds\n") else [])
@@ -161,6 +162,6 @@ of_groups streams = metric_text Lag streams ++ (metric_text Pending streams ++ (
 abbrev pub of_consumers : List StreamFigures → List ℕ
 of_consumers streams = metric_text ConsumerPending streams ++ metric_text ConsumerIdle streams
 
--- each metric, and the end
+-- all metrics, and the end of the text
 unfoldable pub text_of_metrics : List StreamFigures → List ℕ
 text_of_metrics streams = of_streams streams ++ (of_groups streams ++ (of_consumers streams ++ codes "# EOF\n"))

@@ -1,4 +1,4 @@
--- The shape of a value: all of it but its bulk strings and its attributes.
+-- The shape of a value: the value without the content of its bulk strings and without its attributes.
 use Rattle.std.specs.Prelude.{[]}
 use Rattle.redis_resp.specs.Tree.{Tree, Trees, Pairs, nil, int, bulk, array, simple, okay, map_of_pairs, attribute, set}
 use Rattle.redis_resp.specs.Tree.{boolean, verbatim, push, no_trees, more_trees, no_pairs, more_pairs}
@@ -6,7 +6,7 @@ use Rattle.redis_resp.specs.Value.{tree}
 use Rattle.redis_resp.specs.declared.value.Value.{Value}
 
 abbrev mutual
-  -- a value with an empty text in place of each bulk string, and without its attributes
+  -- the value with an empty text in place of each bulk string, and without attributes
   pub shape : Tree → Tree
   shape nil = nil
   shape (int z) = int z
@@ -21,12 +21,12 @@ abbrev mutual
   shape (verbatim format text) = verbatim format text
   shape (push kind ts) = push kind ts
 
-  -- the same of each value
+  -- the shape of each value
   pub shapes : Trees → Trees
   shapes no_trees = no_trees
   shapes (more_trees t ts) = more_trees (shape t) (shapes ts)
 
-  -- the same of each pair
+  -- the shapes of each pair
   pub pair_shapes : Pairs → Pairs
   pair_shapes no_pairs = no_pairs
   pair_shapes (more_pairs k x ps) = more_pairs (shape k) (shape x) (pair_shapes ps)
@@ -35,6 +35,6 @@ abbrev mutual
 abbrev pub shape_of : Value → Tree
 shape_of v = shape (tree v)
 
--- the shapes of a pair
+-- the shapes of both values of a pair
 abbrev pub shape_of_pair : Value × Value → Tree × Tree
 shape_of_pair p = (shape_of p.0, shape_of p.1)

@@ -1,4 +1,4 @@
-//! The figures of a stream, of its groups and of their consumers, from one reply to XINFO STREAM FULL.
+//! The figures of a stream, its groups and their consumers, computed from a reply to `XINFO STREAM FULL`.
 ghost use Rattle.std.specs.Prelude.{◌≡◌, map, option_and_then, IfOk};
 ghost use Rattle.redis_resp.specs.Number.{unsigned_of, within};
 ghost use Rattle.redis_streams.specs.InfoFullMeaning.{full_consumer_meaning, full_group_meaning};
@@ -14,51 +14,51 @@ use std::alloc::{AllocError, Global};
 /// The figures of a stream.
 #[derive(Drop)]
 pub struct StreamFigures {
-    /// Its key.
+    /// The key of the stream.
     pub key: String,
-    /// How many entries it has.
+    /// The number of entries.
     pub length: usize,
-    /// The last generated id; empty if there is no such stream.
+    /// The last generated id. Empty if the stream does not exist.
     pub last_id: String,
-    /// The milliseconds of that id.
+    /// The milliseconds of the last generated id.
     pub last_time: Option<usize>,
-    /// The figures of its groups.
+    /// The figures of the groups.
     pub groups: Vec<GroupFigures>,
 }
 
 /// The figures of a group.
 #[derive(Drop)]
 pub struct GroupFigures {
-    /// Its name.
+    /// The name of the group.
     pub name: String,
-    /// How many entries it has still to read, if the server knows.
+    /// The number of entries that the group has not read yet, if the server knows it.
     pub lag: Option<usize>,
-    /// How many entries are pending.
+    /// The number of pending entries.
     pub pending: usize,
-    /// The id that was delivered last.
+    /// The id of the last delivered entry.
     pub last_id: String,
-    /// The milliseconds of that id.
+    /// The milliseconds of the last delivered id.
     pub last_time: Option<usize>,
-    /// The milliseconds since the time in the first pending entry's id; None if none is pending.
+    /// The milliseconds since the time in the first pending entry's id. `None` if no entry is pending.
     pub oldest_pending: Option<usize>,
-    /// The largest delivery count of the pending entries; 0 if none is pending.
+    /// The largest delivery count of the pending entries, or 0 if no entry is pending.
     pub deliveries: usize,
-    /// The figures of its consumers.
+    /// The figures of the consumers.
     pub consumers: Vec<ConsumerFigures>,
 }
 
 /// The figures of a consumer.
 #[derive(Drop)]
 pub struct ConsumerFigures {
-    /// Its name.
+    /// The name of the consumer.
     pub name: String,
-    /// How many entries are pending for it.
+    /// The number of entries that are pending for the consumer.
     pub pending: usize,
-    /// The milliseconds since it was seen last.
+    /// The milliseconds since the consumer was last seen.
     pub idle: usize,
 }
 
-/// The figures of a stream at `now`, in milliseconds of the server's clock.
+/// Returns the figures of a stream. `now` is the time of the server's clock in milliseconds.
 pub fn figures_of(
     alloc: Global,
     key: &str,
@@ -76,7 +76,7 @@ pub fn figures_of(
     })
 }
 
-/// The figures of groups, in order.
+/// Returns the figures of the groups, in order.
 fn groups_of(
     alloc: Global,
     groups: &[StreamInfoFullGroup],
@@ -92,7 +92,7 @@ fn groups_of(
     Ok(list)
 }
 
-/// The figures of a group.
+/// Returns the figures of a group.
 fn group_of(
     alloc: Global,
     group: &StreamInfoFullGroup,
@@ -112,7 +112,7 @@ fn group_of(
     })
 }
 
-/// The figures of consumers, in order.
+/// Returns the figures of the consumers, in order.
 fn consumers_of(
     alloc: Global,
     consumers: &[StreamInfoFullConsumer],
@@ -132,7 +132,7 @@ fn consumers_of(
     Ok(list)
 }
 
-/// The largest delivery count of these entries, and 0 if there is none.
+/// Returns the largest delivery count of the entries, or 0 if there are none.
 fn most_deliveries(pending: &[StreamInfoFullPending]) -> usize
     ensures { result ≡ most_in (map full_pending_meaning pending.now) }
 {
@@ -143,7 +143,7 @@ fn most_deliveries(pending: &[StreamInfoFullPending]) -> usize
     most
 }
 
-/// The milliseconds since the time in the id of the first entry; None if there is none.
+/// Returns the milliseconds since the time in the id of the first entry, or `None` if there is no entry.
 fn age_of_first(pending: &[StreamInfoFullPending], now: usize) -> Option<usize>
     ensures { result ≡ age_in now (map full_pending_meaning pending.now) }
 {
@@ -153,7 +153,7 @@ fn age_of_first(pending: &[StreamInfoFullPending], now: usize) -> Option<usize>
     }
 }
 
-/// The milliseconds that an id begins with; None if it begins with none.
+/// Returns the milliseconds of an id, or `None` if the text does not begin with milliseconds and a hyphen.
 fn time_of(id: &str) -> Option<usize>
     ensures { result ≡ time_in id.now }
 {
@@ -161,7 +161,7 @@ fn time_of(id: &str) -> Option<usize>
     number_of(time)
 }
 
-/// The number of a text, if it fits 64 bits.
+/// Parses a number of 64 bits.
 fn number_of(text: &str) -> Option<usize>
     ensures { result ≡ option_and_then (within 64) (unsigned_of text.now) }
 {

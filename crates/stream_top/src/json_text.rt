@@ -1,4 +1,4 @@
-//! Figures of streams as a JSON document.
+//! The figures of streams as a JSON document.
 ghost use Rattle.std.specs.Prelude.{◌≡◌, ◌++◌, ◌∷◌, [], IfOk, OnOk, flat_map};
 ghost use Rattle.json.specs.Print.{print};
 ghost use Rattle.json.specs.Token.{key, null};
@@ -11,7 +11,7 @@ use crate::figures::{ConsumerFigures, GroupFigures, StreamFigures};
 use json::Writer;
 use std::alloc::{AllocError, Global};
 
-/// The document: `{"streams":[..]}`.
+/// Returns the document `{"streams":[..]}`.
 pub fn json_text(alloc: Global, streams: &[StreamFigures]) -> Result<Vec<u8>, AllocError>
     ensures { IfOk result (λ text. text.items ≡ print (document_tokens streams.now)) }
 {
@@ -42,7 +42,7 @@ fn push_streams(out: &mut Writer, streams: &[StreamFigures]) -> Result<(), Alloc
     Ok(())
 }
 
-/// A stream, as an object.
+/// Appends a stream as an object.
 #[tactic(auto, unfolding(crate::specs::Json::stream_tokens))]
 fn push_stream(out: &mut Writer, stream: &StreamFigures) -> Result<(), AllocError>
     ensures before { out.new.before ≡ out.old.before }
@@ -54,7 +54,7 @@ fn push_stream(out: &mut Writer, stream: &StreamFigures) -> Result<(), AllocErro
     push_group_list(out, &stream.groups)
 }
 
-/// The groups of a stream as its last member, and its end.
+/// Appends the groups of a stream as its last member, and ends the stream's object.
 #[tactic(auto, unfolding(crate::specs::Json::groups_tokens))]
 fn push_group_list(out: &mut Writer, groups: &[GroupFigures]) -> Result<(), AllocError>
     ensures before { out.new.before ≡ out.old.before }
@@ -76,7 +76,7 @@ fn push_groups(out: &mut Writer, groups: &[GroupFigures]) -> Result<(), AllocErr
     Ok(())
 }
 
-/// A group, as an object.
+/// Appends a group as an object.
 #[tactic(auto, unfolding(crate::specs::Json::group_tokens))]
 fn push_group(out: &mut Writer, group: &GroupFigures) -> Result<(), AllocError>
     ensures before { out.new.before ≡ out.old.before }
@@ -87,7 +87,7 @@ fn push_group(out: &mut Writer, group: &GroupFigures) -> Result<(), AllocError>
     push_consumer_list(out, &group.consumers)
 }
 
-/// The consumers of a group as its last member, and its end.
+/// Appends the consumers of a group as its last member, and ends the group's object.
 #[tactic(auto, unfolding(crate::specs::Json::consumers_tokens))]
 fn push_consumer_list(out: &mut Writer, consumers: &[ConsumerFigures]) -> Result<(), AllocError>
     ensures before { out.new.before ≡ out.old.before }
@@ -98,7 +98,7 @@ fn push_consumer_list(out: &mut Writer, consumers: &[ConsumerFigures]) -> Result
     end_list(out)
 }
 
-/// The members of a group that are numbers, and its last id.
+/// Appends the members of a group between its name and its consumers.
 fn push_backlog(out: &mut Writer, group: &GroupFigures) -> Result<(), AllocError>
     ensures before { out.new.before ≡ out.old.before }
     ensures tokens { OnOk result (out.new.tokens ≡ out.old.tokens ++ backlog_tokens group.now) }
@@ -122,7 +122,7 @@ fn push_consumers(out: &mut Writer, consumers: &[ConsumerFigures]) -> Result<(),
     Ok(())
 }
 
-/// A consumer, as an object.
+/// Appends a consumer as an object.
 #[tactic(auto, unfolding(crate::specs::Json::consumer_tokens))]
 fn push_consumer(out: &mut Writer, consumer: &ConsumerFigures) -> Result<(), AllocError>
     ensures before { out.new.before ≡ out.old.before }
@@ -133,7 +133,7 @@ fn push_consumer(out: &mut Writer, consumer: &ConsumerFigures) -> Result<(), All
     out.end_object()
 }
 
-/// The members of a consumer that are numbers.
+/// Appends the members of a consumer that are numbers.
 #[tactic(auto, unfolding(crate::specs::Json::presence_tokens))]
 fn push_presence(out: &mut Writer, consumer: &ConsumerFigures) -> Result<(), AllocError>
     ensures before { out.new.before ≡ out.old.before }
@@ -143,7 +143,7 @@ fn push_presence(out: &mut Writer, consumer: &ConsumerFigures) -> Result<(), All
     push_count(out, "idle_milliseconds", consumer.idle)
 }
 
-/// The beginning of an object, with its first member, a text.
+/// Begins an object, and appends its first member, whose value is a text.
 #[tactic(auto, unfolding(crate::specs::Json::begin_tokens))]
 fn begin(out: &mut Writer, name: &str, text: &str) -> Result<(), AllocError>
     ensures before { out.new.before ≡ out.old.before }
@@ -153,7 +153,7 @@ fn begin(out: &mut Writer, name: &str, text: &str) -> Result<(), AllocError>
     push_text(out, name, text)
 }
 
-/// The beginning of a member that is a list.
+/// Begins a member whose value is an array.
 #[tactic(auto, unfolding(crate::specs::Json::begin_list_tokens))]
 fn begin_list(out: &mut Writer, name: &str) -> Result<(), AllocError>
     ensures before { out.new.before ≡ out.old.before }
@@ -163,7 +163,7 @@ fn begin_list(out: &mut Writer, name: &str) -> Result<(), AllocError>
     out.begin_array()
 }
 
-/// The end of a list and of the object that it is the last member of.
+/// Ends an array, and the object whose last member it is.
 #[tactic(auto, unfolding(crate::specs::Json::end_list_tokens))]
 fn end_list(out: &mut Writer) -> Result<(), AllocError>
     ensures before { out.new.before ≡ out.old.before }
@@ -173,7 +173,7 @@ fn end_list(out: &mut Writer) -> Result<(), AllocError>
     out.end_object()
 }
 
-/// A member that is a text.
+/// Appends a member whose value is a text.
 #[tactic(auto, unfolding(crate::specs::Json::text_member))]
 fn push_text(out: &mut Writer, name: &str, text: &str) -> Result<(), AllocError>
     ensures before { out.new.before ≡ out.old.before }
@@ -183,7 +183,7 @@ fn push_text(out: &mut Writer, name: &str, text: &str) -> Result<(), AllocError>
     out.string(text)
 }
 
-/// A member that is a number.
+/// Appends a member whose value is a number.
 #[tactic(auto, unfolding(crate::specs::Json::count_member))]
 fn push_count(out: &mut Writer, name: &str, count: usize) -> Result<(), AllocError>
     ensures before { out.new.before ≡ out.old.before }
@@ -193,7 +193,7 @@ fn push_count(out: &mut Writer, name: &str, count: usize) -> Result<(), AllocErr
     out.u64(count as u64)
 }
 
-/// A member that is a number, or null.
+/// Appends a member whose value is a number, or null.
 fn push_maybe(out: &mut Writer, name: &str, count: Option<usize>) -> Result<(), AllocError>
     ensures before { out.new.before ≡ out.old.before }
     ensures tokens { OnOk result (out.new.tokens ≡ out.old.tokens ++ maybe_member name.now count) }
@@ -204,7 +204,7 @@ fn push_maybe(out: &mut Writer, name: &str, count: Option<usize>) -> Result<(), 
     }
 }
 
-/// A member that is an id, or null if it is empty.
+/// Appends a member whose value is an id, or null if the id is empty.
 fn push_id(out: &mut Writer, name: &str, id: &str) -> Result<(), AllocError>
     ensures before { out.new.before ≡ out.old.before }
     ensures tokens { OnOk result (out.new.tokens ≡ out.old.tokens ++ id_member name.now id.now) }
@@ -216,7 +216,7 @@ fn push_id(out: &mut Writer, name: &str, id: &str) -> Result<(), AllocError>
     }
 }
 
-/// A member that is null.
+/// Appends a member whose value is null.
 fn push_null(out: &mut Writer, name: &str) -> Result<(), AllocError>
     ensures before { out.new.before ≡ out.old.before }
     ensures tokens { OnOk result (out.new.tokens ≡ out.old.tokens ++ key name.now ∷ null ∷ []) }

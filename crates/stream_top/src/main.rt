@@ -1,18 +1,19 @@
-//! Shows the groups of a stream and their consumers as a table on standard error, over a connection
-//! at its standard input and output:
+//! Shows the groups of a stream and their consumers as a table on standard error. The connection to the server
+//! is the standard input and output:
 //!
 //! ```text
 //! bash -c 'exec 3<>/dev/tcp/127.0.0.1/6379; stream_top orders 60 <&3 >&3'
 //! ```
 //!
-//! The second argument is the number of tables. It prints one a second and one more as soon as an entry comes:
-//! between two tables it waits in `XREAD BLOCK 1000`. Times are those of the server's clock. In a name a
-//! control character is shown as `?`, a byte that is no UTF-8 as `\xff`, and a backslash as `\\`. It ends with
-//! 0, or with 1 if the connection ends, the server returns an error or memory runs out.
+//! The second argument is the number of tables. The program prints one table a second, and one as soon as an
+//! entry is added. Between two tables it waits in `XREAD BLOCK 1000`. Times are those of the server's clock. In
+//! a name a control character is shown as `?`, a byte that is not UTF-8 as `\xff`, and a backslash as `\\`. The
+//! exit status is 0, or 1 if the connection ends, the server returns an error or memory runs out.
 //!
-//! With `--json` and one key or more it prints one document of JSON, and with `--openmetrics` a text of
-//! OpenMetrics, on standard error too. A key that does not exist is a stream with no entries. It prints all of
-//! it or, with status 1, only the reason. For a wrong argument it ends with 2. `--help` lists its arguments.
+//! With `--json` and at least one key the program prints one JSON document, also on standard error. With
+//! `--openmetrics` it prints an OpenMetrics text. A key that does not exist is shown as a stream without
+//! entries. If the status is 1, the program prints only the reason. The exit status for an invalid argument is
+//! 2. `--help` lists the arguments.
 #![tactic(auto)]
 
 ghost use Rattle.std.specs.Prelude.{◌≡◌, ◌<◌, ◌≤◌, ◌⊎◌, map, option_map, string_bytes, IfOk, IsErr, IsTrue, OnErr, OnOk, Some};
@@ -56,13 +57,13 @@ use stream_commands::{AtLeastOne, xinfo_stream_full_count, xread_options};
 use stream_options::StreamReadOptions;
 use unicode_width::UnicodeWidthStr;
 
-/// At most how many pending entries of a group are read.
+/// The largest number of pending entries of a group that are read.
 const COUNT: usize = 100;
 
 /// The milliseconds between two tables.
 const WAIT: usize = 1000;
 
-/// Requests the stream, if there is one, and the server's time in milliseconds.
+/// Reads the stream, if it exists, and the server's time in milliseconds.
 fn ask<R: Read + Drop, W: Write + Drop>(
     alloc: Global,
     connection: &mut Connection<R, W>,
@@ -83,7 +84,7 @@ fn ask<R: Read + Drop, W: Write + Drop>(
     Ok((Some(stream), now))
 }
 
-/// Waits until an entry comes after the last one, and at most for a second.
+/// Waits until an entry is added after `last_id`, for at most a second.
 fn wait<R: Read + Drop, W: Write + Drop>(
     alloc: Global,
     connection: &mut Connection<R, W>,
@@ -108,8 +109,9 @@ fn main(rt: HostRuntime) -> Result<ExitCode> {
     run_by_words(&rt, &words, &mut connection)
 }
 
-/// Does over this connection what the words say. Returns the exit status 0 if the task ended, or the words ask for the
-/// help. It is 2 if they are wrong, and 1 if memory ran out for them.
+/// Performs the task that the arguments specify. Returns the exit status 0 if the task ended, or if the
+/// arguments ask for the help. The status is 2 if the arguments are invalid, and 1 if memory ran out while they
+/// were parsed.
 fn run_by_words<R: Read + Drop, W: Write + Drop, P: Eprint + AllocGlobal>(
     rt: &P,
     words: &[Word],
@@ -128,7 +130,7 @@ fn run_by_words<R: Read + Drop, W: Write + Drop, P: Eprint + AllocGlobal>(
     }
 }
 
-/// Does a task over this connection.
+/// Performs a task over the connection.
 fn run<R: Read + Drop, W: Write + Drop, P: Eprint + AllocGlobal>(
     rt: &P,
     connection: &mut Connection<R, W>,
@@ -155,7 +157,7 @@ fn do_task<R: Read + Drop, W: Write + Drop, P: Eprint + AllocGlobal>(
     }
 }
 
-/// Prints the table of a stream `rounds` times, and waits for an entry between two of them.
+/// Prints the table of a stream `rounds` times, and waits for an entry between two tables.
 fn show_rounds<R: Read + Drop, W: Write + Drop, P: Eprint + AllocGlobal>(
     rt: &P,
     connection: &mut Connection<R, W>,
@@ -175,7 +177,7 @@ fn show_rounds<R: Read + Drop, W: Write + Drop, P: Eprint + AllocGlobal>(
     Ok(())
 }
 
-/// Prints the table of a stream, and returns its last id.
+/// Prints the table of a stream, and returns the stream's last id.
 fn show_table<R: Read + Drop, W: Write + Drop, P: Eprint + AllocGlobal>(
     rt: &P,
     connection: &mut Connection<R, W>,
@@ -193,7 +195,7 @@ fn show_table<R: Read + Drop, W: Write + Drop, P: Eprint + AllocGlobal>(
     Ok(stream.last_generated_id)
 }
 
-/// Prints the figures of all keys, in this form.
+/// Prints the figures of all keys in the form `form`.
 fn show_text<R: Read + Drop, W: Write + Drop, P: Eprint + AllocGlobal>(
     rt: &P,
     connection: &mut Connection<R, W>,
@@ -208,7 +210,7 @@ fn show_text<R: Read + Drop, W: Write + Drop, P: Eprint + AllocGlobal>(
     Ok(())
 }
 
-/// The text of these figures, in this form.
+/// Returns the text with the figures in the form `form`.
 fn format_text(alloc: Global, streams: &[StreamFigures], form: Form) -> Result<String>
     ensures { IfOk result (λ text. string_bytes text ≡ text_in form streams.now) }
 {
@@ -222,7 +224,7 @@ fn format_text(alloc: Global, streams: &[StreamFigures], form: Form) -> Result<S
     }
 }
 
-/// The document of JSON, as a line.
+/// Returns the JSON document as a line.
 fn json_line(alloc: Global, streams: &[StreamFigures]) -> Result<Vec<u8>, AllocError>
     ensures { IfOk result (λ line. line.items ≡ json_line streams.now) }
 {
@@ -231,7 +233,7 @@ fn json_line(alloc: Global, streams: &[StreamFigures]) -> Result<Vec<u8>, AllocE
     Ok(line)
 }
 
-/// The figures of these streams, of each key once, in order.
+/// Reads the figures of the streams, for each key once, in order.
 fn measure<R: Read + Drop, W: Write + Drop>(
     alloc: Global,
     connection: &mut Connection<R, W>,
@@ -249,14 +251,14 @@ fn measure<R: Read + Drop, W: Write + Drop>(
     Ok(streams)
 }
 
-/// Whether there are figures of this key.
+/// Whether `streams` contains the figures for `key`.
 fn is_measured(streams: &[StreamFigures], key: &str) -> bool
     ensures { result ≡ list_any (is_of key.now) streams.now }
 {
     streams.iter().any(|stream| key == stream.key.as_str())
 }
 
-/// The figures of a stream. If there is none, it has no entries and no groups.
+/// Reads the figures of a stream. A stream that does not exist has no entries and no groups.
 fn measure_one<R: Read + Drop, W: Write + Drop>(
     alloc: Global,
     connection: &mut Connection<R, W>,
@@ -271,7 +273,7 @@ fn measure_one<R: Read + Drop, W: Write + Drop>(
     Ok(figures_of(alloc, &key.name, &stream, now)?)
 }
 
-/// The stream that was found; an empty one if there is none.
+/// Returns the stream that was found, or an empty stream.
 fn find_or_empty(
     alloc: Global,
     found: Option<StreamInfoFullReply>,
@@ -284,7 +286,7 @@ fn find_or_empty(
     }
 }
 
-/// The arguments of the program.
+/// Returns the arguments of the program.
 fn read_arguments<E: Env>(alloc: Global, rt: &E) -> Result<Vec<Word>> {
     let mut words = Vec::new(alloc);
     for number in 1..usize::MAX {
@@ -303,7 +305,7 @@ fn read_arguments<E: Env>(alloc: Global, rt: &E) -> Result<Vec<Word>> {
 /// The largest length of an argument in bytes.
 const LONGEST: usize = 131_072;
 
-/// The argument of this number, as bytes.
+/// Returns the argument with this number, as bytes.
 fn word_at<E: Env>(alloc: Global, rt: &E, number: usize) -> Result<Option<Vec<u8>>> {
     let mut word = vec![in alloc; 0u8; LONGEST]?;
     match rt.arg(number, &mut word) {
@@ -329,14 +331,14 @@ fn receive_as<M: FromRedisValue, R: Read + Drop, W: Write + Drop>(
     Ok(from_reply::<M>(alloc, reply)?)
 }
 
-/// The milliseconds of a reply to TIME, or the largest number, if there are more.
+/// Returns the milliseconds of a reply to `TIME`, or the largest number if there are more.
 fn milliseconds_of(seconds: usize, micros: usize) -> usize
     ensures { result ≡ milliseconds seconds micros }
 {
     seconds.saturating_mul(1000).saturating_add(micros / 1000)
 }
 
-/// Receives the next reply, that to a command on a key; None if there is no such key.
+/// Receives the reply to a command on a key. Returns `None` if the key does not exist.
 fn receive_of_key<R: Read + Drop, W: Write + Drop>(
     alloc: Global,
     connection: &mut Connection<R, W>,
@@ -351,10 +353,10 @@ fn receive_of_key<R: Read + Drop, W: Write + Drop>(
     Ok(Some(from_reply::<Value>(alloc, reply)?))
 }
 
-/// The error of a server for a key that does not exist.
+/// The server's error for a key that does not exist.
 const NO_SUCH_KEY: &str = "ERR no such key";
 
-/// Whether the reply is this error.
+/// Whether the reply is the error `NO_SUCH_KEY`.
 fn is_no_such_key(reply: &Reply) -> bool
     ensures { result ≡ is_no_such_key (answer reply.now) }
 {
@@ -364,13 +366,13 @@ fn is_no_such_key(reply: &Reply) -> bool
     }
 }
 
-/// An entry that was delivered more than this many times was delivered too often.
+/// An entry with more deliveries than this number was delivered too often.
 const TIMES: usize = 3;
 
-/// A consumer that has entries pending is dead once it has not been seen for this many milliseconds.
+/// A consumer with pending entries counts as dead if it was not seen for this number of milliseconds.
 const SILENT: usize = 60_000;
 
-/// The columns, and on which side the texts of each are.
+/// The columns, and the side on which the texts of each column are aligned.
 const COLUMNS: [(&str, Side); 8] = [
     ("GROUP", Side::Left),
     ("LAG", Side::Right),
@@ -382,12 +384,12 @@ const COLUMNS: [(&str, Side); 8] = [
     ("SEEN", Side::Left),
 ];
 
-/// How many columns are of a group, and how many of one of its consumers.
+/// The number of columns for a group, and for one of its consumers.
 const OF_GROUP: usize = 5;
 
 const OF_CONSUMER: usize = 3;
 
-/// The page of a stream at a time of the server's clock, in milliseconds.
+/// Returns the page of a stream. `now` is the time of the server's clock in milliseconds.
 fn format_page(
     alloc: Global,
     key: &str,
@@ -406,7 +408,7 @@ fn format_page(
     Ok(text)
 }
 
-/// The heading of a page, about the whole stream.
+/// Returns the heading of a page, about the whole stream.
 fn format_heading(
     alloc: Global,
     key: &str,
@@ -423,7 +425,7 @@ fn format_heading(
     Ok(text)
 }
 
-/// Adds the rows of a group: one for each of its consumers, and one if it has none.
+/// Appends the rows of a group: one row for each consumer, or one row if there are no consumers.
 fn push_group(
     alloc: Global,
     cells: &mut Vec<String>,
@@ -444,7 +446,7 @@ fn push_group(
     Ok(())
 }
 
-/// Adds `count` empty cells.
+/// Appends `count` empty cells.
 fn push_empty(alloc: Global, cells: &mut Vec<String>, count: usize) -> Result<(), AllocError> {
     for _ in 0..count {
         cells.push(String::new(alloc))?;
@@ -452,7 +454,8 @@ fn push_empty(alloc: Global, cells: &mut Vec<String>, count: usize) -> Result<()
     Ok(())
 }
 
-/// Adds the cells of a group: its name, its lag, what is pending, for how long, and what too often.
+/// Appends the cells of a group: the name, the lag, the pending entries, their age, and the number delivered
+/// too often.
 fn push_state(
     alloc: Global,
     cells: &mut Vec<String>,
@@ -473,7 +476,8 @@ fn push_state(
     Ok(())
 }
 
-/// Adds the cells of a consumer: its name, what is pending for it, and how long ago it was seen.
+/// Appends the cells of a consumer: the name, the number of its pending entries, and the time since it was
+/// seen.
 fn push_consumer(
     alloc: Global,
     cells: &mut Vec<String>,
@@ -505,7 +509,7 @@ fn number(alloc: Global, number: usize) -> Result<String, AllocError> {
     format!(in alloc; "{number}")
 }
 
-/// Milliseconds as a short text, for people.
+/// Formats milliseconds as a short text for people.
 fn format_age(alloc: Global, milliseconds: usize) -> Result<String, AllocError> {
     let seconds = milliseconds / 1000;
     if seconds < 60 {
@@ -519,7 +523,7 @@ fn format_age(alloc: Global, milliseconds: usize) -> Result<String, AllocError> 
     }
 }
 
-/// A name as it may be shown: a control character, which could steer a terminal, is shown as `?`.
+/// Returns a name for display. Each control character becomes `?`, since it could control a terminal.
 fn mask_name(alloc: Global, name: &str) -> Result<String, AllocError> {
     let mut text = String::new(alloc);
     for letter in name.chars() {
@@ -532,12 +536,12 @@ fn mask_name(alloc: Global, name: &str) -> Result<String, AllocError> {
     Ok(text)
 }
 
-/// On which side of its column the text of a cell is.
+/// The side of its column on which the text of a cell is aligned.
 #[derive(Clone, Copy, PartialEq, Eq)]
 enum Side {
-    /// Names.
+    /// For names.
     Left,
-    /// Numbers.
+    /// For numbers.
     Right,
 }
 
@@ -549,7 +553,7 @@ fn push_blanks(line: &mut String, count: usize) -> Result<(), AllocError> {
     Ok(())
 }
 
-/// Appends a row, with two spaces between columns and none at its end.
+/// Appends a row, with two spaces between columns and no spaces at the end.
 fn push_row(line: &mut String, row: &[String], widths: &[usize]) -> Result<(), AllocError> {
     let mut blanks = 0usize;
     for ((cell, width), (_title, side)) in row.iter().zip(widths).zip(&COLUMNS) {
@@ -583,10 +587,10 @@ fn push_table(text: &mut String, cells: &[String]) -> Result<(), AllocError> {
     Ok(())
 }
 
-// Texts as they are shown: each byte that is not UTF-8 as `\xff`, and a backslash as `\\`. So two names are
-// never shown as one.
+// Texts for display: a byte that is not UTF-8 is shown as `\xff`, and a backslash as `\\`. Therefore two
+// different names never have the same text.
 
-/// A copy of a value in which each text is UTF-8.
+/// Copies a value so that each text in the copy is UTF-8.
 #[cycle(legible)]
 fn legible(alloc: Global, value: &Value) -> Result<Value, AllocError>
     ensures { IfOk result (λ copy. shape_of copy ≡ shape_of value.now) }
@@ -627,7 +631,7 @@ fn legible_pairs(
     Ok(copies)
 }
 
-/// Bytes as a text.
+/// Converts bytes to a text.
 fn escaped(alloc: Global, bytes: &[u8]) -> Result<String, AllocError> {
     let mut text = String::new(alloc);
     for chunk in bytes.utf8_chunks() {

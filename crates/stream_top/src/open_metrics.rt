@@ -1,4 +1,4 @@
-//! Figures of streams in the OpenMetrics format.
+//! The figures of streams in the OpenMetrics format.
 ghost use Rattle.std.specs.Prelude.{◌≡◌, ◌++◌, IfOk, OnOk, decimal, flat_map};
 ghost use Rattle.stream_top.specs.Metrics.{consumer_number, consumer_samples, group_number, group_samples};
 ghost use Rattle.stream_top.specs.Metrics.{head_text, help_text, is_time, label_byte, label_text, labelled};
@@ -10,7 +10,7 @@ use crate::figures::{ConsumerFigures, GroupFigures, StreamFigures};
 use itoa::Buffer;
 use std::alloc::{AllocError, Global};
 
-/// A metric: of streams, of groups or of consumers.
+/// A metric of streams, of groups or of consumers.
 #[derive(Clone, Copy)]
 pub enum Metric {
     Length,
@@ -24,7 +24,7 @@ pub enum Metric {
     ConsumerIdle,
 }
 
-/// The text: each metric with all its samples, and the end.
+/// Returns the text: all metrics with their samples, and the end.
 #[tactic(auto, unfolding(crate::specs::Metrics::text_of_metrics))]
 pub fn metrics_text(alloc: Global, streams: &[StreamFigures]) -> Result<Vec<u8>, AllocError>
     ensures { IfOk result (λ text. text.items ≡ text_of_metrics streams.now) }
@@ -37,7 +37,7 @@ pub fn metrics_text(alloc: Global, streams: &[StreamFigures]) -> Result<Vec<u8>,
     Ok(out)
 }
 
-/// The metrics of streams.
+/// Appends the metrics of streams.
 fn push_of_streams(
     alloc: Global,
     out: &mut Vec<u8>,
@@ -49,7 +49,7 @@ fn push_of_streams(
     push_metric(alloc, out, Metric::LastGenerated, streams)
 }
 
-/// The metrics of groups.
+/// Appends the metrics of groups.
 fn push_of_groups(
     alloc: Global,
     out: &mut Vec<u8>,
@@ -64,7 +64,7 @@ fn push_of_groups(
     push_metric(alloc, out, Metric::MaxDeliveries, streams)
 }
 
-/// The metrics of consumers.
+/// Appends the metrics of consumers.
 fn push_of_consumers(
     alloc: Global,
     out: &mut Vec<u8>,
@@ -76,7 +76,7 @@ fn push_of_consumers(
     push_metric(alloc, out, Metric::ConsumerIdle, streams)
 }
 
-/// A metric: its head and its samples.
+/// Appends a metric: its head and its samples.
 #[tactic(auto, unfolding(crate::specs::Metrics::metric_text))]
 fn push_metric(
     alloc: Global,
@@ -90,7 +90,7 @@ fn push_metric(
     push_streams(alloc, out, metric, streams)
 }
 
-/// The head of a metric: its type, its unit if it is a time, and a text for people.
+/// Appends the head of a metric: the type, the unit if it is a time, and the description.
 #[tactic(auto, unfolding(crate::specs::Metrics::head_text))]
 fn push_head(out: &mut Vec<u8>, metric: Metric) -> Result<(), AllocError>
     ensures { OnOk result (out.new.items ≡ out.old.items ++ head_text metric) }
@@ -102,7 +102,7 @@ fn push_head(out: &mut Vec<u8>, metric: Metric) -> Result<(), AllocError>
     push_row(out, b"# HELP ", metric, help(metric).as_bytes())
 }
 
-/// The name of a metric between two texts.
+/// Appends the name of a metric between two texts.
 fn push_row(
     out: &mut Vec<u8>,
     before: &[u8],
@@ -116,7 +116,7 @@ fn push_row(
     out.extend_from_slice(after)
 }
 
-/// The samples of streams, in order.
+/// Appends the samples of the streams, in order.
 fn push_streams(
     alloc: Global,
     out: &mut Vec<u8>,
@@ -131,7 +131,7 @@ fn push_streams(
     Ok(())
 }
 
-/// The samples of a stream.
+/// Appends the samples of a stream.
 #[tactic(auto, unfolding(crate::specs::Metrics::stream_samples))]
 fn push_stream(
     alloc: Global,
@@ -146,7 +146,7 @@ fn push_stream(
     push_groups(alloc, out, metric, &labels, &stream.groups)
 }
 
-/// The samples of groups, in order, under the labels of their stream.
+/// Appends the samples of the groups, in order. `above` are the labels of their stream.
 fn push_groups(
     alloc: Global,
     out: &mut Vec<u8>,
@@ -163,7 +163,7 @@ fn push_groups(
     Ok(())
 }
 
-/// The samples of a group.
+/// Appends the samples of a group. `above` are the labels of its stream.
 #[tactic(auto, unfolding(crate::specs::Metrics::group_samples))]
 fn push_group(
     alloc: Global,
@@ -179,7 +179,7 @@ fn push_group(
     push_consumers(alloc, out, metric, &labels, &group.consumers)
 }
 
-/// The samples of consumers, in order, under the labels of their group.
+/// Appends the samples of the consumers, in order. `above` are the labels of their group.
 fn push_consumers(
     alloc: Global,
     out: &mut Vec<u8>,
@@ -196,7 +196,7 @@ fn push_consumers(
     Ok(())
 }
 
-/// The sample of a consumer.
+/// Appends the sample of a consumer. `above` are the labels of its group.
 #[tactic(auto, unfolding(crate::specs::Metrics::consumer_samples))]
 fn push_consumer(
     alloc: Global,
@@ -212,7 +212,7 @@ fn push_consumer(
     push_sample(out, metric, &labels, of_consumer(metric, consumer))
 }
 
-/// The labels with one more, which this begins.
+/// Returns the labels, and one more label that begins with `begin` and has the value `name`.
 #[tactic(auto, unfolding(crate::specs::Metrics::labelled))]
 fn with_label(alloc: Global, labels: &[u8], begin: &[u8], name: &str) -> Result<Vec<u8>, AllocError>
     ensures { IfOk result (λ all. all.items ≡ labelled labels.now begin.now name.now) }
@@ -225,7 +225,7 @@ fn with_label(alloc: Global, labels: &[u8], begin: &[u8], name: &str) -> Result<
     Ok(all)
 }
 
-/// The text of a label.
+/// Appends the text of a label.
 fn push_label(out: &mut Vec<u8>, text: &[u8]) -> Result<(), AllocError>
     ensures { OnOk result (out.new.items ≡ out.old.items ++ label_text text.now) }
 {
@@ -235,7 +235,7 @@ fn push_label(out: &mut Vec<u8>, text: &[u8]) -> Result<(), AllocError>
     Ok(())
 }
 
-/// A byte of a label. The byte 0 is written as a text, so that no reader has to accept it.
+/// Appends a byte of a label. The byte 0 is written as a text, so that no reader has to accept it.
 fn push_label_byte(out: &mut Vec<u8>, byte: u8) -> Result<(), AllocError>
     ensures { OnOk result (out.new.items ≡ out.old.items ++ label_byte byte) }
 {
@@ -248,7 +248,7 @@ fn push_label_byte(out: &mut Vec<u8>, byte: u8) -> Result<(), AllocError>
     }
 }
 
-/// A sample, if there is a number for it.
+/// Appends a sample, or nothing if there is no number.
 #[tactic(auto, unfolding(crate::specs::Metrics::sample_text))]
 fn push_sample(
     out: &mut Vec<u8>,
@@ -269,7 +269,7 @@ fn push_sample(
     Ok(out.push(b'\n')?)
 }
 
-/// The number of a sample: a count, or milliseconds in seconds.
+/// Appends the number of a sample: a count, or milliseconds converted to seconds.
 fn push_number(out: &mut Vec<u8>, metric: Metric, number: usize) -> Result<(), AllocError>
     ensures { OnOk result (out.new.items ≡ out.old.items ++ number_text metric number) }
 {
@@ -280,14 +280,14 @@ fn push_number(out: &mut Vec<u8>, metric: Metric, number: usize) -> Result<(), A
     }
 }
 
-/// A count.
+/// Appends a count.
 fn push_count(out: &mut Vec<u8>, count: usize) -> Result<(), AllocError>
     ensures { OnOk result (out.new.items ≡ out.old.items ++ decimal count) }
 {
     out.extend_from_slice(Buffer::new().format::<usize>(count).as_bytes())
 }
 
-/// Milliseconds, in seconds with three digits after the point.
+/// Appends milliseconds as seconds, with three digits after the point.
 #[tactic(auto, unfolding(crate::specs::Metrics::seconds_text))]
 fn push_seconds(out: &mut Vec<u8>, milliseconds: usize) -> Result<(), AllocError>
     ensures { OnOk result (out.new.items ≡ out.old.items ++ seconds_text milliseconds) }
@@ -299,7 +299,7 @@ fn push_seconds(out: &mut Vec<u8>, milliseconds: usize) -> Result<(), AllocError
     push_count(out, milliseconds % 10)
 }
 
-/// The name of a metric.
+/// Returns the name of a metric.
 fn name(metric: Metric) -> &'static str
     ensures { result.now ≡ name_text metric }
 {
@@ -316,7 +316,7 @@ fn name(metric: Metric) -> &'static str
     }
 }
 
-/// The text for people.
+/// Returns the description of a metric, for people.
 fn help(metric: Metric) -> &'static str
     ensures { result.now ≡ help_text metric }
 {
@@ -333,7 +333,7 @@ fn help(metric: Metric) -> &'static str
     }
 }
 
-/// Whether a metric is a time, whose numbers are milliseconds.
+/// Whether a metric is a time, measured in milliseconds.
 fn is_time_of(metric: Metric) -> bool
     ensures { result ≡ is_time metric }
 {
@@ -346,7 +346,7 @@ fn is_time_of(metric: Metric) -> bool
     }
 }
 
-/// The number of a stream, if the metric is of streams.
+/// Returns the number for a stream, if the metric is one of streams.
 fn of_stream(metric: Metric, stream: &StreamFigures) -> Option<usize>
     ensures { result ≡ stream_number metric stream.now }
 {
@@ -357,7 +357,7 @@ fn of_stream(metric: Metric, stream: &StreamFigures) -> Option<usize>
     }
 }
 
-/// The number of a group, if the metric is of groups.
+/// Returns the number for a group, if the metric is one of groups.
 fn of_group(metric: Metric, group: &GroupFigures) -> Option<usize>
     ensures { result ≡ group_number metric group.now }
 {
@@ -371,7 +371,7 @@ fn of_group(metric: Metric, group: &GroupFigures) -> Option<usize>
     }
 }
 
-/// The number of a consumer, if the metric is of consumers.
+/// Returns the number for a consumer, if the metric is one of consumers.
 fn of_consumer(metric: Metric, consumer: &ConsumerFigures) -> Option<usize>
     ensures { result ≡ consumer_number metric consumer.now }
 {

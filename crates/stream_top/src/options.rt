@@ -9,20 +9,20 @@ use command_lines::{Line, command, flag, matches_of, refused, word_of};
 use redis_resp::RawBytes;
 use std::alloc::{AllocError, Global};
 
-/// A word of the command line.
+/// An argument of the command line.
 #[derive(Drop)]
 pub struct Word {
     pub bytes: RawBytes,
-    /// The text that it is shown as. Words that differ never have the same text.
+    /// The text that the argument is shown as. Different arguments never have the same text.
     pub text: String,
 }
 
-/// What the program is to do.
+/// The task of the program.
 #[derive(Drop)]
 pub enum Task {
-    /// Tables of a stream are printed, `rounds` times.
+    /// Prints tables of a stream, `rounds` times.
     Tables { key: Key, rounds: u32 },
-    /// The figures of streams are printed once.
+    /// Prints the figures of streams once.
     Text { keys: Vec<Key>, form: Form },
 }
 
@@ -30,7 +30,7 @@ pub enum Task {
 #[derive(Drop)]
 pub struct Key {
     pub bytes: RawBytes,
-    /// The text that it is shown as.
+    /// The text that the key is shown as.
     pub name: String,
 }
 
@@ -57,7 +57,8 @@ const JSON: &str = "json";
 
 const OPEN_METRICS: &str = "openmetrics";
 
-/// The task of these words, whose texts are these, as clap reads them. If the texts do not say so, they are refused.
+/// Parses the arguments with clap. `texts` are their texts. Returns an error if the texts do not specify the
+/// parsed task.
 pub fn task_of(alloc: Global, words: &[Word], texts: &[String]) -> Result<Task, Error>
     ensures least { IfOk result (λ _. 1 ≤ length texts.now) }
     ensures said { IfOk result (λ task. IsTaskOf words.now (map string_bytes texts.now) task) }
@@ -71,7 +72,7 @@ pub fn task_of(alloc: Global, words: &[Word], texts: &[String]) -> Result<Task, 
     Ok(task)
 }
 
-/// The task of these words, as clap reads their texts.
+/// Returns the task that clap finds in the texts of the arguments.
 fn read_task<'a>(
     alloc: Global,
     command: &mut Command<'a>,
@@ -88,7 +89,7 @@ fn read_task<'a>(
     Ok(Task::Text { keys, form })
 }
 
-/// The texts of these words.
+/// Returns the texts of the arguments.
 pub fn texts_of(alloc: Global, words: &[Word]) -> Result<Vec<String>, AllocError>
     ensures { IfOk result (λ texts. map string_bytes texts.items ≡ map text_of words.now) }
 {
@@ -132,7 +133,7 @@ fn form_of(matches: &ArgMatches<'_>) -> Option<Form> {
     }
 }
 
-/// The keys in the arguments, in order.
+/// Returns the keys in the arguments, in order.
 fn keys_of(
     alloc: Global,
     words: &[Word],
@@ -147,7 +148,7 @@ fn keys_of(
     Ok(keys)
 }
 
-/// The key whose text is this one.
+/// Returns the key with the text `name`.
 fn key_of(alloc: Global, words: &[Word], name: &str) -> Result<Key, AllocError> {
     let mut bytes = Vec::new(alloc);
     for word in words {
@@ -161,7 +162,7 @@ fn key_of(alloc: Global, words: &[Word], name: &str) -> Result<Key, AllocError> 
     })
 }
 
-/// The task without a format: a key, and how many tables of it are printed.
+/// Returns the task without a format: a key, and the number of tables to print.
 fn tables_of(alloc: Global, words: &[Word], texts: &[String]) -> Result<Task, Error>
     ensures { IfOk result (λ _. 1 ≤ length texts.now) }
 {

@@ -1,4 +1,4 @@
-//! Whether a task is what the words of a command line say.
+//! Checks that the parsed task matches the values of the command line.
 ghost use Rattle.std.specs.Prelude.{◌≡◌, ◌-◌, ◌^◌, ◌&&◌, [], IfOk, IsTrue, None, Some, map};
 ghost use Rattle.std.specs.List.{AllZip};
 ghost use Rattle.std.specs.Str.{bytes_eq};
@@ -11,7 +11,7 @@ use crate::options::{Form, Key, Task, Word};
 use command_lines::{Arity, Line};
 use std::alloc::{AllocError, Global};
 
-/// How many values each option of the program has: none.
+/// The number of values of each option of the program: none.
 pub struct OptionArity;
 
 impl Arity for OptionArity {
@@ -22,7 +22,7 @@ impl Arity for OptionArity {
     }
 }
 
-/// Whether a line says this task, whose keys are among these words.
+/// Whether `line` specifies `task`, and the keys of the task are among `words`.
 pub fn says(alloc: Global, line: &Line<'_>, words: &[Word], task: &Task) -> Result<bool, AllocError>
     ensures { IfOk result (λ says. IsTrue says → Says words.now (texts_of line.now) task.now) }
 {
@@ -42,7 +42,7 @@ pub fn says(alloc: Global, line: &Line<'_>, words: &[Word], task: &Task) -> Resu
     }
 }
 
-/// Whether a line asks for this form.
+/// Whether the line asks for `form`.
 fn has_form(line: &Line<'_>, form: Form) -> bool
     ensures { IsTrue result → form_said (texts_of line.now) ≡ Some form }
 {
@@ -52,14 +52,14 @@ fn has_form(line: &Line<'_>, form: Form) -> bool
     }
 }
 
-/// Whether a line asks for no form.
+/// Whether the line asks for no form.
 fn has_no_form(line: &Line<'_>) -> bool
     ensures { IsTrue result → form_said (texts_of line.now) ≡ None }
 {
     !line.has("--json") && !line.has("--openmetrics")
 }
 
-/// Whether the names of a line are this key, one of these words, and this number.
+/// Whether the positional arguments of the line are `key`, which is one of `words`, and `rounds`.
 fn says_tables(
     alloc: Global,
     line: &Line<'_>,
@@ -79,7 +79,7 @@ fn says_tables(
     Ok(is_number(text, rounds))
 }
 
-/// Whether a text is this number.
+/// Whether the text is the number.
 fn is_number(text: &str, number: u32) -> bool
     ensures { IsTrue result → IsNumberOf 0 (2 ^ 32 - 1) text.now number }
 {
@@ -89,7 +89,7 @@ fn is_number(text: &str, number: u32) -> bool
     }
 }
 
-/// Whether the names of a line are these keys, in order, and each is one of these words.
+/// Whether the positional arguments of the line are the keys, in order, and each key is one of `words`.
 fn says_keys(
     alloc: Global,
     line: &Line<'_>,
@@ -102,7 +102,7 @@ fn says_keys(
     Ok(are_keys(words, &names, keys))
 }
 
-/// Whether these names are these keys, in order, and each is one of these words.
+/// Whether the names are those of the keys, in order, and each key is one of `words`.
 fn are_keys(words: &[Word], names: &[&str], keys: &[Key]) -> bool
     ensures { IsTrue result → AllZip (IsKey words.now) (map (λ name. name.now) names.now) keys.now }
 {
@@ -119,7 +119,7 @@ fn are_keys(words: &[Word], names: &[&str], keys: &[Key]) -> bool
     left.is_empty()
 }
 
-/// Whether one of these words is shown as the name of this key, and has its bytes.
+/// Whether one of the arguments is shown as the name of `key` and has its bytes.
 fn is_word(words: &[Word], key: &Key) -> bool
     ensures { result ≡ is_word words.now key.now }
 {
@@ -131,7 +131,7 @@ fn is_word(words: &[Word], key: &Key) -> bool
     false
 }
 
-/// Whether a word is shown as the name of this key, and has its bytes.
+/// Whether the argument is shown as the name of `key` and has its bytes.
 fn is_same(word: &Word, key: &Key) -> bool
     ensures { result ≡ (bytes_eq (text_of word.now) (name_of key.now)
         && bytes_eq (bytes_of word.now) (key_bytes key.now)) }
