@@ -1,4 +1,4 @@
--- The statements of the table that the options name.
+-- The statements of the table that the options define.
 use Rattle.std.specs.Prelude.{◌≡◌, ◌∷◌, [], Bool, List, codes, false, string_bytes, true}
 use Rattle.std.specs.Str.{bytes_eq}
 use Rattle.command_lines.specs.Words.{Text}
@@ -7,18 +7,19 @@ use Rattle.worker_sqlite.specs.declared.form.Form.{Form}
 use Rattle.worker_table.specs.declared.row_table.cell.Column.{Column}
 use Rattle.worker_table.specs.declared.row_table.cell.Kind.TheVariants.{Text as OfText}
 
--- the column `fields`, a text
+-- `c` is the column `fields` of texts
 pub record IsFields (c : Column) : Type 0 where
   pub name : string_bytes c.name ≡ codes "fields"
   pub kind : c.kind ≡ OfText
   pub optional : c.optional ≡ false
 
--- a table of this name without columns of its own: the usual one, or one with the column `fields`
+-- A table without columns of its own. The table `entries` has the usual statements, and any other table has one
+-- column `fields`.
 abbrev pub IsFormOfNone : Bool → Text → Form → Type 0
 IsFormOfNone true name form = IsUsual form
 IsFormOfNone false name form = (c : Column) × IsFields c × IsFormOf name (c ∷ []) form
 
--- the statements are those of the table of this name with these columns
+-- `form` contains the statements of the table called `name` with these columns
 abbrev pub IsFormFor : Text → List Column → Form → Type 0
 IsFormFor name [] form = IsFormOfNone (bytes_eq name (codes "entries")) name form
 IsFormFor name (c ∷ columns) form = IsFormOf name (c ∷ columns) form

@@ -1,4 +1,4 @@
--- What the program's contracts speak of.
+-- The definitions that the program's contracts use.
 pub mod Columns
 pub mod Form
 pub mod Options

@@ -1,4 +1,4 @@
--- What the program is to do, by what clap parsed from its command line, and by its words.
+-- The options of the program, in terms of the arguments that clap found and of the arguments themselves.
 use Rattle.std.specs.Prelude.{◌≡◌, ◌≢◌, ◌∷◌, ◌-◌, [], ℕ, IfSome, List, None, Option, Some, String, codes, if◌then◌else◌, length, map, option_map, slice_get, string_bytes}
 use Rattle.std.specs.Str.{bytes_eq}
 use Rattle.std.specs.declared.alloc.Global.{Global}
@@ -11,18 +11,17 @@ use Rattle.worker.specs.declared.dead_letters.search.GiveUp.{GiveUp}
 use Rattle.stream_sqlite.specs.Columns.{columns_of, shape_of}
 use Rattle.stream_sqlite.specs.declared.options.Options.{Options}
 
--- `--forward TARGET` forwards entries to a stream other than KEY
+-- `target` is the value of `--forward TARGET`, the stream that entries are forwarded to. It is not KEY.
 pub record ForwardsTo (found : Found) (target : Option (String Global)) : Type 0 where
   pub given : option_map string_bytes target ≡ first_value found (codes "forward")
   pub other : IfSome target (λ t. string_bytes t ≢ word_in found (codes "KEY"))
 
--- the stream of dead letters is another one than TARGET
+-- the stream of dead letters is not TARGET
 abbrev pub IsOtherThan : Found → Option GiveUp → Type 0
 IsOtherThan found to = IfSome to (λ g. string_bytes g.stream ≢ word_in found (codes "forward"))
 
--- the worker is that of the line, and writes to the table `--table` of FILE; it ends by `--until-empty`, gives
--- entries up by `--dead`, and forwards them by `--forward`; with no `--columns` the table has none but those of the
--- id
+-- `o` has the values of the arguments that clap found. Without `--columns` the table has no columns of its own
+-- besides those of the id.
 pub record AreOptions (found : Found) (o : Options) : Type 0 where
   pub settings : AreSettings (codes "count") 1 10000 found o.settings
   pub path : IsWord found (codes "FILE") o.path
@@ -33,29 +32,30 @@ pub record AreOptions (found : Found) (o : Options) : Type 0 where
   pub dead : GivesUp found o.dead
   pub other : IsOtherThan found o.dead
 
--- how many words after an option are its values
+-- the number of arguments after `option` that are its values
 abbrev pub number_of_values : Text → ℕ
 number_of_values option =
     if bytes_eq option (codes "--until-empty") then 0
     else if bytes_eq option (codes "--dead") then 2
     else 1
 
--- the last value, if there is one
+-- the last value, or `None` if there are no values
 abbrev pub last_given : List Text → Option Text
 last_given values = slice_get values (length values - 1)
 
--- a line says this table, its columns, and the stream that entries are forwarded to
+-- `o` has the table, the columns and the target stream that the command line specifies
 pub record SaysTable (line : List (Text × Text)) (o : Options) : Type 0 where
   pub table : string_bytes o.table ≡ last_said (codes "entries") (said (codes "--table") line)
   pub columns : Some (map shape_of o.columns.items) ≡ columns_of (last_given (said (codes "--columns") line))
   pub forward : option_map string_bytes o.forward ≡ last_given (said (codes "--forward") line)
 
--- entries are forwarded to another stream than KEY, and than that of dead letters
+-- the target stream is neither KEY nor the stream of dead letters
 pub record IsApart (o : Options) : Type 0 where
   pub key : IfSome o.forward (λ t. string_bytes t ≢ string_bytes o.settings.key)
   pub dead : IfSome o.forward (λ t. IfSome o.dead (λ g. string_bytes g.stream ≢ string_bytes t))
 
--- a line says these options: its names are KEY, GROUP, CONSUMER and FILE, in order
+-- `o` has the values of the command line. The positional arguments are KEY, GROUP, CONSUMER and FILE, in this
+-- order.
 pub record Says (line : List (Text × Text)) (o : Options) : Type 0 where
   pub names : said [] line ≡ string_bytes o.settings.key ∷ string_bytes o.settings.group
       ∷ string_bytes o.settings.consumer ∷ string_bytes o.path ∷ []
@@ -65,6 +65,6 @@ pub record Says (line : List (Text × Text)) (o : Options) : Type 0 where
   pub dead : option_map parts_of o.dead ≡ option_map number_and_text (last_pair (said (codes "--dead") line))
   pub apart : IsApart o
 
--- the options of these words
+-- `o` are the options that the arguments `words` specify
 abbrev pub AreOptionsOf : List Text → Options → Type 0
 AreOptionsOf words o = Says (values_in number_of_values [] 0 words) o

@@ -1,4 +1,4 @@
-//! The loop of the program: it sends commands, and takes the replies.
+//! The loop of the program: it sends commands and receives the replies.
 ghost use Rattle.std.specs.Prelude.{◌≡◌, ◌≤◌, IfOk, IfSome, IsTrue, OnErr, OnOk, false, option_map};
 ghost use Rattle.redis_connection.specs.Link.{Link};
 ghost use Rattle.worker.specs.DeadLetters.Besides.{Besides, BreaksBesides};
@@ -23,13 +23,13 @@ use worker::{Asked, Handler, Pipelined, Progress, RequestError, Round, RunError,
 use worker_table::row_table::{Table, TableError};
 use worker_table::{Fault, Rows};
 
-/// The limit on what a connection holds, as `Limits::default` has it.
+/// The limit on the buffer of a connection, as in `Limits::default`.
 const LARGEST: &str = "1 GiB";
 
-/// The limit on the values of a reply, as `Limits::default` has it.
+/// The limit on the values of a reply, as in `Limits::default`.
 const MOST: &str = "16,777,216";
 
-/// How a drain ended: with a read that returned no new entries. Only `drain` and `forward` make one.
+/// Proof that a drain ended with a read that returned no new entries. Only `drain` and `forward` create one.
 #[derive(Clone, Copy)]
 pub struct Drained {
     /// The last turn.
@@ -39,13 +39,13 @@ pub struct Drained {
 /// A turn of the loop.
 #[derive(Clone, Copy)]
 struct TurnMade {
-    /// The command that was sent last in it.
+    /// The last command that was sent in the turn.
     asked: Asked,
-    /// How many entries the handler had seen before it.
+    /// The number of entries that the handler had received before the turn.
     before: u64,
 }
 
-/// Drains until something fails, or, with `until_empty`, until a read returns no new entries.
+/// Drains until an error occurs. With `until_empty`, also ends when a read returns no new entries.
 pub fn drain<R: Read + Drop, W: Write + Drop, T: Table + Drop, P: Eprint + AllocGlobal>(
     rt: &P,
     connection: &mut Connection<R, W>,
@@ -77,7 +77,7 @@ pub fn drain<R: Read + Drop, W: Write + Drop, T: Table + Drop, P: Eprint + Alloc
     bail!("the last turn came")
 }
 
-/// Searches for entries to give up, makes a round, or two in one write, and counts.
+/// Makes one turn: searches for entries to give up, makes one round or two rounds in one write, and counts.
 fn turn<R: Read + Drop, W: Write + Drop, T: Table + Drop, P: Eprint + AllocGlobal>(
     rt: &P,
     connection: &mut Connection<R, W>,
@@ -122,7 +122,7 @@ fn turn<R: Read + Drop, W: Write + Drop, T: Table + Drop, P: Eprint + AllocGloba
     })
 }
 
-/// Looks for entries that were delivered too often, if they are given up.
+/// Searches for entries that were delivered too often, if a search is given.
 fn look<R: Read + Drop, W: Write + Drop>(
     alloc: Global,
     connection: &mut Connection<R, W>,
@@ -145,8 +145,8 @@ fn look<R: Read + Drop, W: Write + Drop>(
     }
 }
 
-/// Prints why entries were left pending, if there are more of them than before. The reason is that of the last
-/// one.
+/// Prints the number of entries that were left pending in this turn, if there are any. The printed reason is
+/// that of the last such entry.
 fn say_left<P: Eprint + AllocGlobal>(
     rt: &P,
     before: u64,
@@ -162,10 +162,11 @@ fn say_left<P: Eprint + AllocGlobal>(
     Ok(())
 }
 
-/// Makes a round, or two in one write if that is allowed, after which the worker goes on.
+/// Makes a round after which the worker goes on. If `together` is true, makes two rounds in one write where
+/// possible.
 ///
-/// Two rounds in one write are not allowed if entries are given up: the search for these is between an
-/// acknowledgement and a claim.
+/// If entries are given up, `together` must be false, since the search for them is between an acknowledgement
+/// and a claim.
 fn round<R: Read + Drop, W: Write + Drop, T: Table + Drop>(
     alloc: Global,
     connection: &mut Connection<R, W>,
@@ -200,7 +201,7 @@ fn round<R: Read + Drop, W: Write + Drop, T: Table + Drop>(
     }
 }
 
-/// A round that had a write of its own.
+/// Converts a round with a write of its own to a `Pipelined`.
 fn wrap_round(round: Round) -> Pipelined
     ensures { result ≡ record { acknowledged = false; round = round } }
 {
@@ -210,7 +211,7 @@ fn wrap_round(round: Round) -> Pipelined
     }
 }
 
-/// An error if the handler said to stop.
+/// Returns an error if the handler returned `Stop`.
 fn goes_on(progress: Progress, fault: &Option<Fault>, undone: &Option<String>) -> Result<()>
     ensures ok { OnOk result (progress ≡ Progress.GoesOn) }
     ensures err { OnErr result (progress ≡ Progress.Stopped) }
@@ -221,7 +222,7 @@ fn goes_on(progress: Progress, fault: &Option<Fault>, undone: &Option<String>) -
     }
 }
 
-/// The error of a round that failed.
+/// Returns the error of a failed round.
 fn explain_round_error(error: RunError, fault: &Option<Fault>) -> Error {
     match error {
         RunError::Request(RequestError::NotCommitted) => explain_commit_error(fault),
@@ -241,7 +242,7 @@ fn explain_round_error(error: RunError, fault: &Option<Fault>) -> Error {
     }
 }
 
-/// The error of a commit that failed.
+/// Returns the error of a failed commit.
 fn explain_commit_error(fault: &Option<Fault>) -> Error {
     match fault {
         Some(reason) => anyhow!("cannot commit: {reason}"),
@@ -249,7 +250,7 @@ fn explain_commit_error(fault: &Option<Fault>) -> Error {
     }
 }
 
-/// The error of an entry that was not done, with its id if that is known.
+/// Returns the error of an entry that was not done, with the entry's id if it is known.
 fn explain_stop(fault: &Option<Fault>, undone: &Option<String>) -> Error {
     match (fault, undone) {
         (
@@ -277,7 +278,7 @@ fn explain_stop(fault: &Option<Fault>, undone: &Option<String>) -> Error {
     }
 }
 
-/// What is wrong with a field.
+/// Returns the text of a field's error.
 fn explain_field_error(why: FieldError) -> &'static str {
     match why {
         FieldError::Missing => "is missing",

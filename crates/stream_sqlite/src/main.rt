@@ -1,25 +1,27 @@
-//! Drains a stream for one consumer of a group into a table of a SQLite file, over a connection that is at its
-//! standard input and output:
+//! Drains a stream for one consumer of a group into a table of a SQLite file. The connection to the server is
+//! the standard input and output:
 //!
 //! ```text
 //! bash -c 'exec 3<>/dev/tcp/127.0.0.1/6379; stream_sqlite orders packers ann orders.db <&3 >&3'
 //! ```
 //!
-//! Each entry is a row of the table `entries`: `milliseconds` and `sequence` are its id, and `fields` is a text
-//! of JSON, `[["name","value"],..]`. With `--table NAME` it is a row of another table, and with
-//! `--columns item:text,pieces:integer,photo:blob?` it has the fields of these names in place of that text. A
-//! batch is one transaction, and its entries are acknowledged after the commit. An entry whose id is in the
-//! table already is skipped if its fields are the same; otherwise the program ends with an error.
+//! Each entry is a row of the table `entries`. The columns `milliseconds` and `sequence` are the id, and
+//! `fields` is a JSON text, `[["name","value"],..]`. With `--table NAME` the table has another name. With
+//! `--columns item:text,pieces:integer,photo:blob?` a row has the fields with these names instead of the text.
 //!
-//! With `--forward TARGET` each new row is added to the stream TARGET of the same server, under its own id.
-//! What is to be sent is in the table `outbox` of the same file, from the transaction of the row until the
-//! reply of the server.
+//! A batch is one transaction. Its entries are acknowledged after the commit. An entry whose id is in the table
+//! is skipped if its fields are equal. Otherwise the program ends with an error.
 //!
-//! With `--dead N STREAM` an entry that is no row is left pending, and after N deliveries it is moved to a
-//! stream of dead letters.
+//! With `--forward TARGET` each new row is added to the stream TARGET of the same server, under its own id. The
+//! commands for that are in the table `outbox` of the same file. Each is inserted in the transaction of its
+//! row, and removed after the server's reply.
 //!
-//! At the end it prints on standard error what it did. Its exit status is 0 if nothing new came with
-//! `--until-empty`, 2 for a wrong argument, and otherwise 1, with the reason. `--help` lists its arguments.
+//! With `--dead N STREAM` an entry that cannot be a row is left pending. After N deliveries it is moved to the
+//! stream of dead letters STREAM.
+//!
+//! At the end the program prints its counts on standard error. The exit status is 0 if `--until-empty` is given
+//! and a read returned nothing new, and 2 if an argument is invalid. Otherwise it is 1, and the reason is
+//! printed. `--help` lists the arguments.
 #![tactic(auto)]
 
 ghost use Rattle.std.specs.Prelude.{◌≡◌, ◌<◌, ◌≤◌, ◌⊎◌, IfOk, IsErr, IsOk, IsTrue, Ok, OnErr, OnOk, map, option_map, string_bytes};
@@ -61,7 +63,7 @@ fn main(rt: HostRuntime) -> Result<ExitCode> {
     run_over_sqlite(&rt, &rt, &words, &mut connection)
 }
 
-/// Drains over this connection, into a table of SQLite, as the words say: `run_by_words` with the types of that table.
+/// Calls `run_by_words` with the types of a SQLite table.
 fn run_over_sqlite<
     R: Read + Drop,
     W: Write + Drop,
@@ -72,8 +74,9 @@ fn run_over_sqlite<
     run_by_words(rt, files, words, connection)
 }
 
-/// Drains over this connection, into a table of these files, as the words say. Returns the exit status 0 if the loop
-/// ended as asked, or the words ask for the help. It is 2 if they are wrong, and 1 if memory ran out for them.
+/// Parses `words` as the command line, and drains the stream into the table that they name. Returns the exit
+/// status 0 if the loop ended because of `--until-empty`, or if the arguments ask for the help. The status is 2
+/// if the arguments are invalid, and 1 if memory ran out while they were parsed.
 fn run_by_words<
     R: Read + Drop,
     W: Write + Drop,
@@ -95,7 +98,7 @@ fn run_by_words<
     }
 }
 
-/// The exit status 0, or the failure, whose exit status is 1.
+/// Returns the exit status 0, or the failure. The exit status of a failure is 1.
 fn end_with(alloc: Global, ended: Result<Drained>) -> Result<ExitCode>
     ensures ok { OnOk ended (IfOk result (λ code. exit_status code ≡ 0)) }
     ensures given { OnOk ended (IsOk result) }
@@ -107,7 +110,7 @@ fn end_with(alloc: Global, ended: Result<Drained>) -> Result<ExitCode>
     }
 }
 
-/// The error as it may be shown: one whose text has a control character is its masked text.
+/// Returns the error for display. Each control character in its text becomes `?`.
 fn mask_error(alloc: Global, error: Error) -> Error {
     match mask_text(alloc, &error) {
         Ok(Some(text)) => Error::msg(text),
@@ -115,7 +118,8 @@ fn mask_error(alloc: Global, error: Error) -> Error {
     }
 }
 
-/// The masked text of an error, if it differs from its text.
+/// Returns the text of an error with `?` for each control character. Returns `None` if the text has no control
+/// character.
 fn mask_text(alloc: Global, error: &Error) -> Result<Option<String>, AllocError> {
     let text = format!(in alloc; "{error}")?;
     if !text.chars().any(char::is_control) {
@@ -124,7 +128,7 @@ fn mask_text(alloc: Global, error: &Error) -> Result<Option<String>, AllocError>
     Ok(Some(format!(in alloc; "{}", Masked(&text))?))
 }
 
-/// The arguments of the program.
+/// Returns the arguments of the program.
 fn read_arguments(rt: &HostRuntime) -> Result<Vec<String>> {
     let mut words = Vec::new(rt.alloc());
     for word in env::args(rt)?.skip(1) {
@@ -133,7 +137,7 @@ fn read_arguments(rt: &HostRuntime) -> Result<Vec<String>> {
     Ok(words)
 }
 
-/// What a worker is to do, whatever its table.
+/// The part of the options that does not depend on the table.
 #[derive(Drop)]
 struct Work {
     settings: Settings,
@@ -141,7 +145,7 @@ struct Work {
     until_empty: bool,
 }
 
-/// Drains by these options, over this connection, into the table of their names.
+/// Drains with these options into the table that they name.
 fn drain_by<
     R: Read + Drop,
     W: Write + Drop,
@@ -182,7 +186,7 @@ fn drain_by<
     }
 }
 
-/// Drains into the table of these rows, in the file of this path, and closes it.
+/// Drains into the table of `rows`, and closes the table. The table is in the file at `path`.
 fn drain_into<
     R: Read + Drop,
     W: Write + Drop,
@@ -213,7 +217,8 @@ fn drain_into<
     end_after(ended, shown, closed)
 }
 
-/// Drains into the table of these rows, in the file of this path, forwards the entries, and closes it.
+/// Drains into the table of `rows`, forwards the entries, and closes the table. The table is in the file at
+/// `path`.
 fn forward_into<
     R: Read + Drop,
     W: Write + Drop,
@@ -243,7 +248,8 @@ fn forward_into<
     end_after(ended, Ok(()), closed)
 }
 
-/// How a run ended, after what waits was shown and its table was closed. Its own error comes first.
+/// Returns the outcome of a run. The error of the run comes first, then that of showing the outbox, and then
+/// that of closing the table.
 fn end_after(ended: Result<Drained>, shown: Result<()>, closed: Result<()>) -> Result<Drained>
     ensures { IfOk result (λ drained. ended ≡ Ok drained) }
 {
@@ -253,7 +259,7 @@ fn end_after(ended: Result<Drained>, shown: Result<()>, closed: Result<()>) -> R
     Ok(drained)
 }
 
-/// Drains over this connection, and prints what was done.
+/// Drains over the connection, and prints the counts.
 fn drain_over<R: Read + Drop, W: Write + Drop, T: Table + Drop, P: Eprint + AllocGlobal>(
     rt: &P,
     connection: &mut Connection<R, W>,
@@ -272,7 +278,7 @@ fn drain_over<R: Read + Drop, W: Write + Drop, T: Table + Drop, P: Eprint + Allo
     make_run(rt, connection, rows, &mut run)
 }
 
-/// Drains over this connection, forwards the entries, and prints what was done.
+/// Drains over the connection, forwards the entries, and prints the counts.
 fn forward_over<R: Read + Drop, W: Write + Drop, T: WithOutbox + Drop, P: Eprint + AllocGlobal>(
     rt: &P,
     connection: &mut Connection<R, W>,
@@ -300,7 +306,7 @@ struct Run {
     until_empty: bool,
 }
 
-/// A run that does this work.
+/// Creates a run for this work.
 fn begin_run(alloc: Global, work: Work) -> Result<Run>
     ensures settings { IfOk result (λ run. run.worker.settings ≡ settings_with work.dead work.settings) }
     ensures until_empty { IfOk result (λ run. run.until_empty ≡ work.until_empty) }
@@ -317,8 +323,8 @@ fn begin_run(alloc: Global, work: Work) -> Result<Run>
     })
 }
 
-/// The search for entries that were delivered too often, if they are given up. Then entries that were delivered before
-/// are requested one at a time.
+/// Creates the search for entries that were delivered too often, if `to` is given. Then redelivered entries are
+/// requested one at a time.
 fn make_search(
     alloc: Global,
     settings: &mut Settings,
@@ -393,7 +399,7 @@ fn make_run_forwarding<
     ended
 }
 
-/// How many entries were given up, if any may be.
+/// Returns the number of entries that were given up, or `None` if entries are not given up.
 fn count_letters(dead: &Option<DeadLetterSearch>) -> Option<u64> {
     match dead {
         Some(dead) => Some(dead.letters()),
@@ -407,7 +413,7 @@ fn show_counts<P: Eprint>(rt: &P, counts: &Counts) -> Result<()> {
     Ok(())
 }
 
-/// Prints the counts, and how many entries were forwarded.
+/// Prints the counts, and the number of forwarded entries.
 fn show_sent<P: Eprint>(rt: &P, counts: &Counts, sent: u64) -> Result<()> {
     eprintln!(rt; "{counts}, {sent} sent on")?;
     Ok(())

@@ -1,7 +1,7 @@
-//! Texts as a terminal may show them.
+//! Texts for display on a terminal.
 use std::fmt;
 
-/// A text, in which a control character, which could steer a terminal, is shown as `?`.
+/// A text for display. Each control character is shown as `?`, since it could control a terminal.
 #[derive(Clone, Copy)]
 pub struct Masked<'a>(pub &'a str);
 

@@ -1,4 +1,4 @@
-//! The database in a file, as a source of a table and of an outbox beside it.
+//! Opening a database with a table and an outbox.
 ghost use Rattle.std.specs.Prelude.{◌≡◌, ℕ, IfOk, List, None, Option};
 ghost use Rattle.worker_table.specs.RowTable.Posts.{rows_known};
 ghost use Rattle.worker_table.specs.RowTable.Rows.{Row};
@@ -15,34 +15,35 @@ use worker_sqlite::{Form, OUTBOX, OUTBOX_CREATE, OpenError, SqliteOutbox, Sqlite
 use worker_table::row_table::{Column, Kind, Table, WithOutbox};
 use worker_table::target_of;
 
-/// A table in a file of the system, and the same with its outbox.
+/// A table in a file of the operating system.
 type FileTable = SqliteTable<FileStore<DatabaseFile>>;
 
 type FileOutbox = SqliteOutbox<FileStore<DatabaseFile>>;
 
-/// What opens the database in the file of a path.
+/// Opens the databases in files by their paths.
 pub(crate) trait Open<T: Table, O: WithOutbox> {
-    /// The rows of the table of this name in the file of this path, if they are known.
+    /// The rows of a table, given the path of its file and its name, if the rows are known.
     ghost rows: { Self → List ℕ → List ℕ → Option (List Row) };
 
-    /// Opens the table of this name with these columns, in the file of this path. The file and the table are created
-    /// if they are not there.
+    /// Opens the table `name` with these columns in the file at `path`. Creates the file and the table if they
+    /// do not exist.
     fn open(&self, path: &str, name: &str, columns: &[Column]) -> Result<T>
         ensures { IfOk result (λ table. T.committed table ≡ rows self.now path.now name.now) };
 
-    /// The table of the file of this path, with the outbox beside it, which is created if it is not there.
+    /// Adds the outbox to the table in the file at `path`. Creates the outbox if it does not exist.
     fn with_outbox(&self, path: &str, table: T) -> Result<O>
         ensures { IfOk result (λ outbox. rows_known (O.committed outbox) ≡ T.committed table) };
 
-    /// The table beside an outbox.
+    /// Returns the table of an outbox.
     fn without_outbox(&self, outbox: O) -> T
         ensures { T.committed result ≡ rows_known (O.committed outbox) };
 
-    /// Shows how many commands wait in the outbox of this table, and for which stream. It shows nothing of an empty one.
+    /// Shows the number of commands in the outbox of the table, and the stream that they add to. Shows nothing
+    /// if the outbox is empty.
     fn show_waiting(&self, table: &mut T) -> Result<()>
         ensures { T.committed table.new ≡ T.committed table.old };
 
-    /// Closes the table in the file of this path.
+    /// Closes the table in the file at `path`.
     fn close(&self, path: &str, table: T) -> Result<()>;
 }
 
@@ -90,7 +91,7 @@ impl Open<FileTable, FileOutbox> for HostRuntime {
     }
 }
 
-/// The table of this form, in the file of this path.
+/// Opens the table of `form` in the file at `path`.
 fn open_table(rt: &HostRuntime, path: &str, form: Form) -> Result<FileTable>
     ensures { IfOk result (λ table. table.form ≡ form) }
 {
@@ -102,7 +103,8 @@ fn open_table(rt: &HostRuntime, path: &str, form: Form) -> Result<FileTable>
     }
 }
 
-/// The statements of a table of this name with these columns, or, if there are none, with one text.
+/// Returns the statements of the table `name` with these columns. If there are no columns, the table has one
+/// text.
 fn form_of(alloc: Global, name: &str, columns: &[Column]) -> Result<Form>
     ensures { IfOk result (IsFormFor name.now columns.now) }
 {
@@ -121,8 +123,8 @@ fn form_of(alloc: Global, name: &str, columns: &[Column]) -> Result<Form>
     Ok(Form::of(alloc, name, &fields)?)
 }
 
-/// The error of a table of this name that was not opened in this file. If there is another one, its form and the wanted
-/// one are shown.
+/// Returns the error of a table that could not be opened. If the table exists in another form, prints that form
+/// and the wanted form.
 fn explain(
     rt: &HostRuntime,
     path: &str,
@@ -141,7 +143,8 @@ fn explain(
     Ok(error.context(format_args!("cannot open {path}")))
 }
 
-/// Prints a warning if the file that should be the write-ahead log of this path is not one. The database ignores it.
+/// Prints a warning if the file in place of the write-ahead log is not such a log. The database ignores such a
+/// file.
 fn warn_of_log(rt: &HostRuntime, path: &str) -> Result<()> {
     let path = format!(in rt.alloc(); "{path}-wal")?;
     let Ok(file) = File::open(rt, path.as_str()) else {
@@ -159,7 +162,7 @@ fn warn_of_log(rt: &HostRuntime, path: &str) -> Result<()> {
     Ok(())
 }
 
-/// Whether a file that begins so is a write-ahead log of SQLite.
+/// Whether `head` is the beginning of a write-ahead log of SQLite.
 fn is_head_of_log(head: &[u8]) -> bool {
     matches!(
         head,

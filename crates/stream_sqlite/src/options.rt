@@ -17,24 +17,24 @@ use worker::dead_letters::GiveUp;
 use worker_sqlite::OUTBOX;
 use worker_table::row_table::{Column, Kind};
 
-/// The table, if none is named.
+/// The default name of the table.
 pub const TABLE: &str = "entries";
 
-/// What the program is to do.
+/// The options of the program.
 #[derive(Drop)]
 pub struct Options {
     pub settings: Settings,
     pub path: String,
     /// The name of the table.
     pub table: String,
-    /// Its columns; if there are none, all fields are one text.
+    /// The columns of the table. If there are none, all fields are one text.
     pub columns: Vec<Column>,
-    /// Whether it ends when a read finds nothing new.
+    /// Whether the program ends when a read returns no new entries.
     pub until_empty: bool,
-    /// The stream that the entries are forwarded to.
+    /// The stream that entries are forwarded to.
     pub forward: Option<String>,
-    /// If set, entries that were delivered too often are moved to a stream of dead letters, and those that are
-    /// no row are left pending.
+    /// The stream of dead letters, and the number of deliveries after which an entry is moved there. If set,
+    /// entries that cannot be rows are left pending.
     pub dead: Option<GiveUp>,
 }
 
@@ -47,7 +47,7 @@ pub const COUNT: Number = Number {
     usual: "1000",
 };
 
-/// The options of these words, as clap reads them. If the words do not say so, they are refused.
+/// Parses the arguments with clap. Returns an error if the arguments do not specify the parsed options.
 pub fn options_of(alloc: Global, words: &[String]) -> Result<Options, Error>
     ensures least { IfOk result (λ _. 4 ≤ length words.now) }
     ensures said { IfOk result (λ options. AreOptionsOf (map string_bytes words.now) options) }
@@ -62,7 +62,7 @@ pub fn options_of(alloc: Global, words: &[String]) -> Result<Options, Error>
     Ok(options)
 }
 
-/// The options that a line asks for, by what was found in it.
+/// Returns the options that clap found in the arguments.
 fn options_in(
     alloc: Global,
     command: &mut Command<'_>,
@@ -127,7 +127,8 @@ fn forward<'a>(alloc: Global) -> Arg<'a> {
     text(alloc, "forward", "TARGET", help).value_parser(ValueParser::NonEmptyString)
 }
 
-/// The columns of a list as `item:text,pieces:integer,photo:blob?`, or none.
+/// Returns the columns of a list such as `item:text,pieces:integer,photo:blob?`, or no columns if there is no
+/// list.
 fn columns_of(
     alloc: Global,
     command: &mut Command<'_>,
@@ -150,7 +151,7 @@ fn columns_of(
     Ok(columns)
 }
 
-// The option as an error names it.
+// The names of the options in errors.
 const COLUMNS: &str = "--columns <LIST>";
 
 const FORWARD: &str = "--forward <TARGET>";
@@ -162,7 +163,8 @@ const DEAD: &str = "--dead <TIMES> <STREAM>";
 const DEAD_HELP: &str =
     "Entries that are no row are left pending; those delivered so many times, 1 at least, go to this stream";
 
-/// The name of the table. Names that begin with `sqlite_` are the database's own.
+/// Returns the name of the table. A name that begins with `sqlite_` is an error, since the database reserves
+/// such names.
 fn table_of(
     alloc: Global,
     command: &mut Command<'_>,
@@ -180,10 +182,10 @@ fn table_of(
     Ok(String::from_str(alloc, table)?)
 }
 
-/// The prefix of names that the database keeps for itself.
+/// The prefix of names that the database reserves.
 const OWN: &str = "sqlite_";
 
-/// A column: its name, and what its values are. With a question mark a row may have none.
+/// Parses a column: the name, and the kind of the values. With a question mark a row may have no value.
 fn column_of(alloc: Global, command: &mut Command<'_>, part: &str) -> Result<Column, Error> {
     let Some((name, kind)) = part.rsplit_once(':') else {
         let reason = "a column is NAME:text, NAME:integer or NAME:blob";
@@ -212,8 +214,8 @@ fn kind_of(alloc: Global, command: &mut Command<'_>, kind: &str) -> Result<Kind,
     }
 }
 
-/// The stream that the entries are forwarded to, if one is named. It must be another one than KEY, and their
-/// table not the outbox.
+/// Returns the stream that entries are forwarded to, if one is given. KEY is an error. With `--forward` the
+/// table `outbox` is an error too.
 fn forward_of(
     alloc: Global,
     command: &mut Command<'_>,
@@ -236,7 +238,8 @@ fn forward_of(
     Ok(Some(String::from_str(alloc, target)?))
 }
 
-/// After how many deliveries entries are given up, and to which stream: another one than KEY and TARGET.
+/// Returns the value of `--dead`, if it is given: the number of deliveries after which entries are given up,
+/// and the stream for them. The stream must be neither KEY nor TARGET.
 fn dead_of(
     alloc: Global,
     command: &mut Command<'_>,
@@ -255,7 +258,7 @@ fn dead_of(
     Ok(to)
 }
 
-/// Whether there is a column of this name, ignoring the case of ASCII letters.
+/// Whether a column has this name. The case of ASCII letters is ignored.
 fn is_taken(columns: &[Column], name: &str) -> bool {
     for column in columns {
         if column.name.eq_ignore_ascii_case(name) {

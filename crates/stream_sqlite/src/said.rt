@@ -1,4 +1,4 @@
-//! Whether options are what the words of a command line say.
+//! Checks that the parsed options match the values of the command line.
 ghost use Rattle.std.specs.Prelude.{◌≡◌, ◌∷◌, ◌++◌, IfOk, IfSome, IsTrue, None, Some, codes, map, option_map, string_bytes};
 ghost use Rattle.clap.specs.Words.{found_of};
 ghost use Rattle.command_lines.specs.Words.{said, texts_of};
@@ -11,7 +11,7 @@ use command_lines::{Arity, Line, names_after, says_dead, says_settings, says_tex
 use std::alloc::{AllocError, Global};
 use worker_table::row_table::{Column, Kind};
 
-/// How many values each option of the program has.
+/// The number of values of each option of the program.
 pub struct OptionArity;
 
 impl Arity for OptionArity {
@@ -26,7 +26,7 @@ impl Arity for OptionArity {
     }
 }
 
-/// Whether a line says these options, which are those of the matches.
+/// Whether `line` specifies `options`, given that `options` match `matches`.
 pub fn says(
     alloc: Global,
     line: &Line<'_>,
@@ -52,7 +52,7 @@ pub fn says(
     Ok(true)
 }
 
-/// Whether a line says this table, its columns, and the stream that entries are forwarded to.
+/// Whether `line` specifies the table, the columns and the target stream of `options`.
 fn says_table(alloc: Global, line: &Line<'_>, options: &Options) -> Result<bool, AllocError>
     ensures { IfOk result (λ says. IsTrue says → SaysTable (texts_of line.now) options.now) }
 {
@@ -65,7 +65,8 @@ fn says_table(alloc: Global, line: &Line<'_>, options: &Options) -> Result<bool,
     Ok(true)
 }
 
-/// Whether the last list of `--columns` in a line is of these columns. Without a list there are none.
+/// Whether the last `--columns` list of the line is a list of `columns`. Without a list `columns` must be
+/// empty.
 fn says_columns(alloc: Global, line: &Line<'_>, columns: &[Column]) -> Result<bool, AllocError>
     ensures { IfOk result (λ says. IsTrue says → Some (map shape_of columns.now)
         ≡ columns_of (last_given (said (codes "--columns") (texts_of line.now)))) }
@@ -77,7 +78,7 @@ fn says_columns(alloc: Global, line: &Line<'_>, columns: &[Column]) -> Result<bo
     }
 }
 
-/// Whether entries are forwarded to the last stream of `--forward` in a line, and without one to none.
+/// Whether the last `--forward` stream of the line is `forward`. Without one `forward` must be `None`.
 fn says_forward(
     alloc: Global,
     line: &Line<'_>,
@@ -90,7 +91,7 @@ fn says_forward(
     Ok(is_target(last_given(&values), forward))
 }
 
-/// Whether this is the stream, or there is none.
+/// Whether `forward` is the stream `said`, or both are `None`.
 fn is_target(said: Option<&str>, forward: &Option<String>) -> bool
     ensures { IsTrue result → option_map string_bytes forward.now ≡ option_map (λ text. text.now) said.entry }
 {
@@ -101,7 +102,7 @@ fn is_target(said: Option<&str>, forward: &Option<String>) -> bool
     }
 }
 
-/// The last of these values.
+/// Returns the last value, or `None` if there are no values.
 fn last_given<'a>(values: &[&'a str]) -> Option<&'a str>
     ensures { option_map (λ text. text.now) result ≡ last_given (map (λ v. v.now) values.now) }
 {
@@ -111,7 +112,7 @@ fn last_given<'a>(values: &[&'a str]) -> Option<&'a str>
     }
 }
 
-/// Whether a list, as `item:text,photo:blob?`, is of these columns.
+/// Whether `list`, such as `item:text,photo:blob?`, is a list of `columns`.
 fn lists(list: &str, columns: &[Column]) -> bool
     ensures { IsTrue result → columns_in list.now ≡ Some (map shape_of columns.now) }
 {
@@ -130,7 +131,7 @@ fn lists(list: &str, columns: &[Column]) -> bool
     false
 }
 
-/// Whether a part of a list, as `item:text`, is this column.
+/// Whether a part of a list, such as `item:text`, is `column`.
 fn is_column(part: &str, column: &Column) -> bool
     ensures { IsTrue result → column_in part.now ≡ Some (shape_of column.now) }
 {
@@ -140,7 +141,7 @@ fn is_column(part: &str, column: &Column) -> bool
     }
 }
 
-/// The text after this name and a colon, if a part begins so.
+/// Returns the text after `name` and a colon, if the part begins with them.
 fn kind_after<'a>(part: &'a str, name: &str) -> Option<&'a str>
     ensures { IfSome result (λ kind. part.now ≡ name.now ++ 58 ∷ kind.now) }
 {
@@ -148,14 +149,14 @@ fn kind_after<'a>(part: &'a str, name: &str) -> Option<&'a str>
     after(rest, ":")
 }
 
-/// The text after this front, if the text begins so.
+/// Returns the text after `front`, if the text begins with it.
 fn after<'a>(text: &'a str, front: &str) -> Option<&'a str>
     ensures { IfSome result (λ rest. text.now ≡ front.now ++ rest.now) }
 {
     text.strip_prefix(front)
 }
 
-/// The word of a kind, with a question mark if a row may have no value.
+/// Returns the word for a kind, with a question mark if a row may have no value.
 fn kind_word(kind: Kind, optional: bool) -> &'static str
     ensures kind { kind_in result.now ≡ Some (kind, optional) }
     ensures whole { at_last_colon result.now ≡ None }

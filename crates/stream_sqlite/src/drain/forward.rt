@@ -19,8 +19,9 @@ use worker::{Asked, Handler, Worker};
 use worker_table::row_table::WithOutbox;
 use worker_table::{Forwarding, SendError};
 
-/// Drains until something fails, or until a read finds nothing new with `--until-empty`. Before each round it
-/// forwards what is committed, so nothing is left to send if it ends without an error.
+/// Drains until an error occurs. With `until_empty`, also ends when a read returns no new entries. Forwards the
+/// committed entries before each round. Therefore no entry is left to forward if the loop ends without an
+/// error.
 pub fn forward<R: Read + Drop, W: Write + Drop, T: WithOutbox + Drop, P: Eprint + AllocGlobal>(
     rt: &P,
     connection: &mut Connection<R, W>,
@@ -57,7 +58,7 @@ pub fn forward<R: Read + Drop, W: Write + Drop, T: WithOutbox + Drop, P: Eprint 
     bail!("the last turn came")
 }
 
-/// Forwards what is committed, and makes a round. Returns the request.
+/// Forwards the committed entries, and makes a round. Returns the command of the round.
 fn pass<R: Read + Drop, W: Write + Drop, T: WithOutbox + Drop, P: Eprint + AllocGlobal>(
     rt: &P,
     connection: &mut Connection<R, W>,
@@ -82,7 +83,7 @@ fn pass<R: Read + Drop, W: Write + Drop, T: WithOutbox + Drop, P: Eprint + Alloc
     turn(rt, connection, worker, rows, counts, dead, asked)
 }
 
-/// Forwards what is committed.
+/// Forwards the committed entries.
 fn send<R: Read + Drop, W: Write + Drop, T: WithOutbox + Drop>(
     alloc: Global,
     connection: &mut Connection<R, W>,
@@ -99,7 +100,8 @@ fn send<R: Read + Drop, W: Write + Drop, T: WithOutbox + Drop>(
     }
 }
 
-/// The error of an entry that was not forwarded. It names `target`, if the stream of the command is not known.
+/// Returns the error of an entry that was not forwarded. The error names `target` if the stream of the command
+/// is not known.
 fn explain_send_error(error: SendError, target: &str) -> Error {
     match error {
         SendError::Table(reason) => anyhow!("cannot send on to {target}: {reason}"),
@@ -115,7 +117,7 @@ fn explain_send_error(error: SendError, target: &str) -> Error {
     }
 }
 
-/// Searches for entries to give up, makes a round, and counts. Returns the request.
+/// Searches for entries to give up, makes a round, and counts. Returns the command of the round.
 fn turn<R: Read + Drop, W: Write + Drop, T: WithOutbox + Drop, P: Eprint + AllocGlobal>(
     rt: &P,
     connection: &mut Connection<R, W>,
@@ -155,7 +157,7 @@ fn turn<R: Read + Drop, W: Write + Drop, T: WithOutbox + Drop, P: Eprint + Alloc
     Ok(asked)
 }
 
-/// Makes a round, after which the worker goes on. Returns the request.
+/// Makes a round after which the worker goes on. Returns the command of the round.
 fn round<R: Read + Drop, W: Write + Drop, T: WithOutbox + Drop>(
     alloc: Global,
     connection: &mut Connection<R, W>,
