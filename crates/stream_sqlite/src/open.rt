@@ -137,7 +137,7 @@ fn explain(
         OpenError::Another(there) => {
             eprintln!(rt; "there: {}", Masked(&there))?;
             eprintln!(rt; "wanted: {}", Masked(wanted))?;
-            anyhow!("its table `{name}` is another one")
+            anyhow!("its table `{name}` has another form")
         }
     };
     Ok(error.context(format_args!("cannot open {path}")))

@@ -252,7 +252,7 @@ fn dead_of(
     if let Some(some) = &to
         && some.stream.as_str() == word_of(matches, "forward")
     {
-        let reason = "STREAM is another one than TARGET";
+        let reason = "STREAM must not be TARGET";
         return Err(refused_value(alloc, command, &some.stream, DEAD, reason));
     }
     Ok(to)

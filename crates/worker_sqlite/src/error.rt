@@ -14,7 +14,7 @@ pub enum OpenError {
     #[error("{0}")]
     Table(TableError),
     /// Another table or view with this name exists. The text is the SQL that created it.
-    #[error("its table is another one: {0}")]
+    #[error("its table has another form: {0}")]
     Another(String),
 }
 
