@@ -70,7 +70,7 @@ class Link:
             raise Failed(str(error)) from None
 
     def complain(self, what: str, error: Exception) -> None:
-        """Says that something was not done, if the last thing that was said is another one."""
+        """Says that something was not done, unless the last thing it said is the same."""
         if self.said != what:
             self.said = what
             self.say(f"{what}: {error}")

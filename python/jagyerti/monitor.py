@@ -159,7 +159,7 @@ class Watch(threading.Thread):
         return False
 
     def take(self) -> bool:
-        """Takes over the table that came, if all of it is there. Returns whether it is another one than before."""
+        """Takes over the table that came, if all of it is there. Returns whether it differs from the last one."""
         if time.monotonic() - self.came > QUIET:
             self._keep()
         is_new, self.is_new = self.is_new, False
