@@ -13,14 +13,13 @@ from . import cluster, connect, partitions, resp
 from .connect import FAILED, Failed
 from .metrics import MetricsFile, Row
 from .process import HELD
-from .retry import PASSING, SAME_SERVER, Pauses
+from .retry import BROKE, PASSING, SAME_SERVER, Pauses
 from .team import State, Team, Tell
 from .tries import Plan, Stopped, Tries
 from .url import Address
 
 FIRST_PAUSE = 0.1  # seconds
 ANSWERED = "the server replied "
-BROKE = re.compile("the server closed the connection|cannot (read from|write to) the server")
 HEAD = ("PARTITION", "NODE", "STATE", "ENTRIES", "TO COME", "PENDING", "STARTS", "MOVED", "ASK", "WAITS")
 COLUMNS = ("entries", "to_come", "pending", "starts", "moved", "ask", "waits")
 

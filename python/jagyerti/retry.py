@@ -2,6 +2,7 @@
 from __future__ import annotations
 
 import random
+import re
 from typing import Callable
 
 # A server that replies with one of these is starting, failing over, or short of memory: later the same command works.
@@ -9,6 +10,8 @@ PASSING = ("TRYAGAIN", "CLUSTERDOWN", "LOADING", "MASTERDOWN", "READONLY", "NORE
            "MISCONF")
 # After these the same server is the right one; after the others it may be another one.
 SAME_SERVER = ("TRYAGAIN", "UNBLOCKED", "BUSY", "OOM", "MISCONF")
+# What a program says of a connection that broke: maybe before it sent anything.
+BROKE = re.compile("the server closed the connection|cannot (read from|write to) the server")
 
 
 def may_pass(error: str) -> bool:

@@ -16,7 +16,7 @@ from .connect import FAILED, SILENT, USAGE, Failed
 from .counts import Counts
 from .metrics import Figures, MetricsFile, Row
 from .process import HELD, Run
-from .retry import Pauses
+from .retry import BROKE, Pauses
 from .url import Address
 
 GOOD_RUN = 60.0  # seconds after which the count of tries begins anew
@@ -238,7 +238,7 @@ class Tries:
         if status == FAILED and silence and silent >= silence * 1000 - 20 and has_asked:
             self.say(f"the server said nothing for {silent / 1000:.1f} seconds, --block and --timeout together")
             return SILENT, True
-        return status, status not in (0, USAGE) and has_asked
+        return status, status not in (0, USAGE) and (has_asked or bool(BROKE.search(self.error)))
 
 
 def _show(line: str) -> None:

@@ -22,6 +22,7 @@ while os.read(0, 100):
 {then}
 """
 CLOSED = 'print("3 entries in 1 batch\\nError: the server closed the connection", file=sys.stderr); sys.exit(1)'
+RESET = 'print("Error: cannot write to the server: Connection reset by peer (os error 104)", file=sys.stderr); sys.exit(1)'
 FULL = 'print("Error: cannot write the file: no space left on device", file=sys.stderr); sys.exit(1)'
 SLOW = "time.sleep(0.5); " + CLOSED
 STAYS = 'print("stays", file=sys.stderr, flush=True); time.sleep(60)'
@@ -114,6 +115,15 @@ class Command(Running):
         running = self.start("drain", "--program", self.fake(CLOSED), self.url, "k", "g", "c", "f", "--retry", "2", "--pause", "0.01")
         said = running.communicate(timeout=60)[1].decode()
         self.assertEqual((said.count("no connection with"), said.count("tries again"), running.returncode), (3, 2, 1))
+
+    def test_retry_if_the_connection_broke_before_anything_was_sent(self):
+        for then, tries in ((RESET, 2), (FULL, 0)):
+            running = self.start("drain", "--program", self.fake(then), self.url, "k", "g", "c", "f", "--retry", "2",
+                                 "--pause", "0.01")
+            for _ in range(1 + tries):
+                self.listener.accept()[0].close()
+            said = running.communicate(timeout=60)[1].decode()
+            self.assertEqual((said.count("tries again"), running.returncode), (tries, 1), said)
 
     def test_words_of_the_program_pass_through(self):
         fake = self.fake('print(sys.argv[1:], file=sys.stderr)')
