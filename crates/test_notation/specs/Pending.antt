@@ -6,20 +6,11 @@ use Rattle.redis_streams.specs.declared.pending.extended.StreamPendingCountReply
 use Rattle.redis_streams.specs.declared.pending.extended.StreamPendingId.{StreamPendingId}
 use Rattle.redis_streams.specs.declared.pending.summary.StreamPendingReply.{StreamPendingReply}
 use Rattle.redis_streams.specs.declared.pending.summary.StreamPendingReply.TheVariants.{Empty, Data}
-use Rattle.test_notation.specs.declared.replies.pending.Share.{Share}
 use Rattle.test_notation.specs.Form.{listed}
 
 -- a consumer's name and how many entries are pending for it
 abbrev pub pending_of_form : StreamInfoConsumer → List ℕ
 pending_of_form c = string_bytes c.name ++ codes "=" ++ decimal c.pending
-
--- the consumer of a share
-abbrev pub consumer_of : Share → StreamInfoConsumer
-consumer_of s = s.0.now
-
--- the same of a borrowed consumer
-abbrev pub share_form : Share → List ℕ
-share_form s = pending_of_form (consumer_of s)
 
 -- how many entries are pending, the first and last id, and the consumers
 abbrev pub pending_form : StreamPendingReply → List ℕ

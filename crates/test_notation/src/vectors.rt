@@ -16,7 +16,7 @@ use redis_resp::{FromRedisValue, Value};
 use std::alloc::{AllocError, Global};
 
 /// A text that was computed, beside the expected text.
-#[derive(Debug, Drop)]
+#[derive(Drop)]
 pub struct Row {
     pub name: String,
     pub text: String,
@@ -110,11 +110,11 @@ fn push_reply_row<T: FromRedisValue + PrintedForm>(
     match read_value(alloc, notation) {
         Ok(value) => push_answer_row::<T>(alloc, rows, name, value, stored),
         Err(NotationError::Memory) => Err(AllocError),
-        Err(_error) => push_row(
+        Err(_error) => push_text_row(
             alloc,
             rows,
             name,
-            &String::from_str(alloc, "no value")?,
+            String::from_str(alloc, "no value")?,
             stored,
         ),
     }

@@ -3,7 +3,7 @@ ghost use Rattle.std.specs.Prelude.{◌<◌, ◌≤◌, IfOk, length};
 
 use crate::notation::error::NotationError;
 use crate::notation::quoted::{bulk_in, text_in};
-use crate::notation::scan::{expect_mark, number_in, skip_blanks, strip_mark, word_in};
+use crate::notation::scan::{expect_mark, number_in, strip_mark, word_in};
 use redis_resp::Value;
 use std::alloc::Global;
 
@@ -12,36 +12,41 @@ use std::alloc::Global;
 pub fn value_in(alloc: Global, text: &[u8]) -> Result<(Value, &[u8]), NotationError>
     ensures { IfOk result (λ r. length r.1.now < length text.now) }
 {
-    let text = skip_blanks(text);
-    if text.first() == Some(&b'"') {
-        let (bytes, rest) = bulk_in(alloc, text)?;
-        return Ok((Value::BulkString(bytes), rest));
+    match word_in(text) {
+        Ok((b"Array", rest)) => array_in(alloc, rest),
+        Ok((b"Set", rest)) => set_in(alloc, rest),
+        Ok((b"Map", rest)) => map_in(alloc, rest),
+        Ok((b"Push", rest)) => push_in(alloc, rest),
+        Ok((b"Attr", rest)) => attribute_in(alloc, rest),
+        _ => plain_in(alloc, text),
     }
-    let (word, rest) = word_in(text)?;
-    match word {
-        b"Array" => {
-            let (values, rest) = values_in(alloc, rest)?;
-            Ok((Value::Array(values), rest))
-        }
-        b"Set" => {
-            let (values, rest) = values_in(alloc, rest)?;
-            Ok((Value::Set(values), rest))
-        }
-        b"Map" => {
-            let (pairs, rest) = pairs_in(alloc, expect_mark(rest, '[')?, ']')?;
-            Ok((Value::Map(pairs), rest))
-        }
-        b"Push" => push_in(alloc, rest),
-        b"Attr" => attribute_in(alloc, rest),
-        b"Nil" => Ok((Value::Nil, rest)),
-        b"Okay" => Ok((Value::Okay, rest)),
-        b"Int" => int_in(rest),
-        b"Boolean" => boolean_in(rest),
-        b"Simple" => simple_in(alloc, rest),
-        b"Verbatim" => verbatim_in(alloc, rest),
-        b"Bytes" => bytes_in(alloc, rest),
-        _ => Ok((Value::BulkString(Vec::from_slice(alloc, word)?), rest)),
-    }
+}
+
+/// `[value, ..]`
+#[cycle(value)]
+fn array_in(alloc: Global, text: &[u8]) -> Result<(Value, &[u8]), NotationError>
+    ensures { IfOk result (λ r. length r.1.now < length text.now) }
+{
+    let (values, rest) = values_in(alloc, text)?;
+    Ok((Value::Array(values), rest))
+}
+
+/// `[value, ..]`
+#[cycle(value)]
+fn set_in(alloc: Global, text: &[u8]) -> Result<(Value, &[u8]), NotationError>
+    ensures { IfOk result (λ r. length r.1.now < length text.now) }
+{
+    let (values, rest) = values_in(alloc, text)?;
+    Ok((Value::Set(values), rest))
+}
+
+/// `[value: value, ..]`
+#[cycle(value)]
+fn map_in(alloc: Global, text: &[u8]) -> Result<(Value, &[u8]), NotationError>
+    ensures { IfOk result (λ r. length r.1.now < length text.now) }
+{
+    let (pairs, rest) = pairs_in(alloc, expect_mark(text, '[')?, ']')?;
+    Ok((Value::Map(pairs), rest))
 }
 
 /// `[value, ..]`
@@ -117,6 +122,25 @@ fn attribute_in(alloc: Global, text: &[u8]) -> Result<(Value, &[u8]), NotationEr
         },
         rest,
     ))
+}
+
+/// Parses a value that holds no other values.
+fn plain_in(alloc: Global, text: &[u8]) -> Result<(Value, &[u8]), NotationError>
+    ensures { IfOk result (λ r. length r.1.now < length text.now) }
+{
+    match word_in(text) {
+        Ok((b"Nil", rest)) => Ok((Value::Nil, rest)),
+        Ok((b"Okay", rest)) => Ok((Value::Okay, rest)),
+        Ok((b"Int", rest)) => int_in(rest),
+        Ok((b"Boolean", rest)) => boolean_in(rest),
+        Ok((b"Simple", rest)) => simple_in(alloc, rest),
+        Ok((b"Verbatim", rest)) => verbatim_in(alloc, rest),
+        Ok((b"Bytes", rest)) => bytes_in(alloc, rest),
+        _ => {
+            let (bytes, rest) = bulk_in(alloc, text)?;
+            Ok((Value::BulkString(bytes), rest))
+        }
+    }
 }
 
 /// A number

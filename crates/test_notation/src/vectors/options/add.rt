@@ -37,25 +37,22 @@ pub fn idempotent_vectors(alloc: Global) -> Result<[OptionsVector<StreamAddOptio
     ensures { IfOk result (λ vectors. map (λ v. v.0.now) vectors
         ≡ codes "v13" ∷ codes "v14" ∷ codes "v15" ∷ codes "v16" ∷ []) }
 {
-    let automatic = StreamAddOptions::default().idmpauto(String::from_str(alloc, "producer-1")?);
+    let automatic = by_producer(alloc)?;
+    let manual = produced(alloc, StreamAddOptions::default())?;
+    let existing = produced(alloc, StreamAddOptions::default().nomkstream())?;
+    let trimmed = produced(alloc, StreamAddOptions::default().trim(exactly(100)))?;
     Ok([
-        (
-            "v13",
-            produced(alloc, StreamAddOptions::default())?,
-            "IDMP producer-1 iid-1",
-        ),
+        ("v13", manual, "IDMP producer-1 iid-1"),
         ("v14", automatic, "IDMPAUTO producer-1"),
-        (
-            "v15",
-            produced(alloc, StreamAddOptions::default().nomkstream())?,
-            "NOMKSTREAM IDMP producer-1 iid-1",
-        ),
-        (
-            "v16",
-            produced(alloc, StreamAddOptions::default().trim(exactly(100)))?,
-            "IDMP producer-1 iid-1 MAXLEN = 100",
-        ),
+        ("v15", existing, "NOMKSTREAM IDMP producer-1 iid-1"),
+        ("v16", trimmed, "IDMP producer-1 iid-1 MAXLEN = 100"),
     ])
+}
+
+/// The id of a producer alone.
+fn by_producer(alloc: Global) -> Result<StreamAddOptions, AllocError> {
+    let producer_id = String::from_str(alloc, "producer-1")?;
+    Ok(StreamAddOptions::default().idmpauto(producer_id))
 }
 
 /// Add options with all settings, and with one that is set twice, v17 to v19.

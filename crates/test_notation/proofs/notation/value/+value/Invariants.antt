@@ -2,20 +2,29 @@ use Rattle.std.proofs.Common.{◌+◌, ◌*◌, ◌<◌, ◌≤◌, length}
 use Rattle.test_notation.proofs.notation.value.+value.Given as goal
 
 -- Each call reads a shorter text than its caller, but for the first key of a list of pairs.
+abbrev pub decreases-array_in : goal.decreases-array_in
+decreases-array_in l = 4 * length l.text.now + 1
+
 abbrev pub decreases-attribute_in : goal.decreases-attribute_in
-decreases-attribute_in l = 2 * length l.text.now
+decreases-attribute_in l = 4 * length l.text.now
+
+abbrev pub decreases-map_in : goal.decreases-map_in
+decreases-map_in l = 4 * length l.text.now
 
 abbrev pub decreases-pairs_in : goal.decreases-pairs_in
-decreases-pairs_in l = 2 * length l.text.now + 1
+decreases-pairs_in l = 4 * length l.text.now + 1
 
 abbrev pub decreases-push_in : goal.decreases-push_in
-decreases-push_in l = 2 * length l.text.now
+decreases-push_in l = 4 * length l.text.now
+
+abbrev pub decreases-set_in : goal.decreases-set_in
+decreases-set_in l = 4 * length l.text.now + 1
 
 abbrev pub decreases-value_in : goal.decreases-value_in
-decreases-value_in l = 2 * length l.text.now
+decreases-value_in l = 4 * length l.text.now
 
 abbrev pub decreases-values_in : goal.decreases-values_in
-decreases-values_in l = 2 * length l.text.now
+decreases-values_in l = 4 * length l.text.now
 
 abbrev pub invariant-pairs_in-loop-pairs : goal.invariant-pairs_in-loop-pairs
 invariant-pairs_in-loop-pairs l = length l.rest ≤ length l.text
