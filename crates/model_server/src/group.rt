@@ -1,4 +1,4 @@
-//! A stream of Redis with one consumer group as a state machine, and what holds after every
-//! schedule. It runs nothing: its functions are laws.
+//! A stream of Redis with one consumer group as a state machine, and the laws that hold after every schedule. It runs
+//! nothing: its functions are laws.
 
 pub mod laws;

@@ -1,4 +1,4 @@
--- Entries that are redelivered one at a time, to the consumer and to others.
+-- Redelivery of one entry at a time, to the consumer and to others.
 use Rattle.std.specs.Prelude.{ℕ, ◌+◌, ◌≤◌, Bool, List, [], ◌∷◌, length, if◌then◌else◌}
 use Rattle.model_server.specs.Group.Worker.{Id, Delivered, Phase, own, claiming, reading}
 use Rattle.model_server.specs.Group.Group.{Name, Pending}
@@ -9,7 +9,7 @@ use Rattle.model_server.specs.Once.Consumer.{is_idle}
 use Rattle.model_server.specs.Once.World.{Setting, World, Event, Ask, Else, first_world, happens}
 use Rattle.model_server.specs.Once.Law.{after}
 
--- the entries that are redelivered to the consumer, by what its phase requests
+-- the entries that are redelivered to the consumer by its request in this phase
 abbrev pub asked_again : {F : Type 0} → Name → (Id → Bool) → Id → Phase → group.World F → List (Delivered F)
 asked_again name pick next (own behind) w = alone.again w (group.Reread name pick)
 asked_again name pick next (claiming from) w = alone.again w (group.Claim name pick next)
@@ -22,17 +22,17 @@ again s w (Ask n pick next) =
 again s w (Else event) = alone.again w.stream event
 again s w event = []
 
--- the number of events of a schedule that redeliver the entry of this id, and no other entry
+-- the number of events that redeliver the entry of this id, and no other entry
 abbrev pub times_alone : {F : Type 0} → Setting F → Id → List (Event F) → World F → ℕ
 times_alone s id [] w = 0
 times_alone s id (e ∷ es) w = alone.alone id (again s w e) + times_alone s id es (happens s w e)
 
--- no event of a schedule redelivers two entries
+-- each event redelivers at most one entry
 abbrev pub OneAtATime : {F : Type 0} → Setting F → List (Event F) → World F → Type 0
 OneAtATime s [] w = Unit {0}
 OneAtATime s (e ∷ es) w = (length (again s w e) ≤ 1) × OneAtATime s es (happens s w e)
 
--- then the count of a pending entry is of that entry alone
+-- if `OneAtATime` holds, the delivery count of a pending entry is at most 1 more than its `times_alone`
 abbrev pub EachIsCountedAlone : Type 0 → Type 0
 EachIsCountedAlone F = (s : Setting F) (events : List (Event F)) → OneAtATime s events first_world → (p : Pending)
     → Among p (after s events).stream.pending → p.count ≤ 1 + times_alone s p.id events first_world

@@ -3,7 +3,7 @@ use Rattle.std.specs.Prelude.{ℕ, ◌+◌, ◌-◌, List, [], ◌∷◌, map, t
 use Rattle.model_server.specs.Group.Worker.{Entry}
 use Rattle.model_server.specs.Group.Group.{Numbers, id_text}
 
--- the numbers of an id, and the record that is added with it
+-- a record with the numbers of its id
 abbrev pub Numbered : Type 0 → Type 0
 Numbered F = Numbers × F
 
@@ -16,7 +16,7 @@ numbered base (r ∷ rs) = ((base + 1, 0), r) ∷ numbered (base + 1) rs
 abbrev pub as_entry : {F : Type 0} → Numbered F → Entry F
 as_entry r = (id_text r.0, r.1)
 
--- the entries of the records
+-- the records as entries of the stream, in order
 abbrev pub entries : {F : Type 0} → ℕ → List F → List (Entry F)
 entries base records = map as_entry (numbered base records)
 
@@ -26,7 +26,7 @@ pub data Stage : Type 0 where
   asking : Stage
   -- the first `known` records are in the stream
   knows : (known : ℕ) → Stage
-  -- the same, and it waits for the reply to a batch of the next `sent` records
+  -- the first `known` records are in the stream, and it waits for the reply to a batch of the next `sent` records
   waits : (known sent : ℕ) → Stage
 
 -- a request of the producer
@@ -36,42 +36,43 @@ pub data Request (F : Type 0) : Type 0 where
   -- MULTI, an XADD of each record with its id, and EXEC
   batch : (records : List (Numbered F)) → Request F
 
--- a reply of the server
+-- a reply of the server to the producer
 pub data Answer : Type 0 where
   -- to a batch: each XADD added its record, or was refused because its id is not above the last one
   executed : Answer
-  -- to either: it was refused, a batch as a whole
+  -- to either request: it was refused, and a batch as a whole
   refused : Answer
-  -- to XINFO STREAM: the last id that was added, `0-0` if there is no stream
+  -- to XINFO STREAM: the last id that was added, or `0-0` if there is no stream
   last_is : (last : Numbers) → Answer
 
 -- the next records after the first `known`, at most `count` of them
 abbrev pub next_batch : {F : Type 0} → ℕ → ℕ → List (Numbered F) → List (Numbered F)
 next_batch count known all = take count (drop known all)
 
--- it requests to add these, and sends nothing if there are none
+-- the request to add these records; none if there are no records
 abbrev pub adding : {F : Type 0} → List (Numbered F) → Option (Request F)
 adding [] = None
 adding (r ∷ rs) = Some (batch (r ∷ rs))
 
--- then it waits for the reply, if a request was sent
+-- the stage after the request to add these records: it waits, unless there are none
 abbrev pub waiting : {F : Type 0} → ℕ → List (Numbered F) → Stage
 waiting known [] = knows known
 waiting known (r ∷ rs) = waits known (length (r ∷ rs))
 
--- its next request, of all records: none while it waits, and none if all are in
+-- the next request of the producer: none while it waits for a reply, and none if all records are in the stream
 abbrev pub request : {F : Type 0} → ℕ → List (Numbered F) → Stage → Option (Request F)
 request count all asking = Some ask_last
 request count all (knows known) = adding (next_batch count known all)
 request count all (waits known sent) = None
 
--- its stage after that was sent
+-- the stage after that request is sent
 abbrev pub requested : {F : Type 0} → ℕ → List (Numbered F) → Stage → Stage
 requested count all asking = asking
 requested count all (knows known) = waiting known (next_batch count known all)
 requested count all (waits known sent) = waits known sent
 
--- its stage after a reply. The last id determines how many records are in; after a refusal it requests that again
+-- the stage after a reply. The last id determines how many records are in the stream. A batch that was executed adds
+-- its own to them. After a refusal the producer requests the last id again
 abbrev pub learns : ℕ → Stage → Answer → Stage
 learns base asking (last_is last) = knows (last.0 - base)
 learns base asking executed = asking

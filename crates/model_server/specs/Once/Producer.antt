@@ -1,4 +1,4 @@
--- The producer with its connection, and what the server does with its requests.
+-- The producer with its connection, and how the server executes its requests.
 use Rattle.std.specs.Prelude.{ℕ, List, [], ◌∷◌, Bool, ◌&&◌, Option, Some, None, if◌then◌else◌}
 use Rattle.std.specs.Option.{is_none}
 use Rattle.model_server.specs.Group.World.{appended}
@@ -9,22 +9,22 @@ use Rattle.model_server.specs.Once.Feed.{request, requested, learns}
 -- the producer and its connection
 pub record Producer (F : Type 0) : Type 0 where
   pub stage : Stage
-  pub sent : Option (Request F)  -- its request, on the way to the server
-  pub answer : Option Answer  -- the reply, on the way back
-  pub late : List (Request F)  -- its requests on connections that broke: each may still arrive, or never
+  pub sent : Option (Request F)  -- the request on the way to the server
+  pub answer : Option Answer  -- the reply on the way back
+  pub late : List (Request F)  -- requests on connections that broke: each may still arrive, or never
 
--- a producer that knows only its records
+-- a producer that was just started: it knows only its records
 abbrev pub new_producer : {F : Type 0} → Producer F
 new_producer = record { stage = asking; sent = None; answer = None; late = [] }
 
--- it sends a request if nothing is on the way, either to the server or back
+-- the producer after it sends its next request. It sends none while a request or a reply is on the way
 abbrev pub sends : {F : Type 0} → ℕ → List (Numbered F) → Producer F → Producer F
 sends count all p =
     if is_none p.sent && is_none p.answer
     then record p { stage = requested count all p.stage; sent = request count all p.stage }
     else p
 
--- the stream after the XADDs of a batch: each is refused individually if its id is not above the last one
+-- the stream after the XADDs of a batch: each is refused by itself if its id is not above the last one
 abbrev pub add_all : {F : Type 0} → group.World F → List (Numbered F) → group.World F
 add_all w [] = w
 add_all w (r ∷ rs) = add_all (appended w r.0 r.1) rs
@@ -34,7 +34,7 @@ abbrev pub filled : {F : Type 0} → Bool → group.World F → Request F → gr
 filled executes w ask_last = w
 filled executes w (batch records) = if executes then add_all w records else w
 
--- the reply of the server
+-- the reply to a request, if the server executes or refuses it
 abbrev pub answer_to : {F : Type 0} → Bool → group.World F → Request F → Answer
 answer_to executes w ask_last = if executes then last_is w.last else refused
 answer_to executes w (batch records) = if executes then executed else refused
@@ -44,21 +44,21 @@ abbrev pub filled_by : {F : Type 0} → Bool → group.World F → Option (Reque
 filled_by executes w None = w
 filled_by executes w (Some r) = filled executes w r
 
--- the request arrived at the server, and the reply is on the way back
+-- the producer after its request, if there is one, arrived at the server: the reply is on the way back
 abbrev pub arrived : {F : Type 0} → Bool → group.World F → Option (Request F) → Producer F → Producer F
 arrived executes w None p = p
 arrived executes w (Some r) p = record p { sent = None; answer = Some (answer_to executes w r) }
 
--- a reply arrives
+-- the producer after a reply, if one is on the way
 abbrev pub hears : {F : Type 0} → ℕ → Option Answer → Producer F → Producer F
 hears base None p = p
 hears base (Some a) p = record p { stage = learns base p.stage a; answer = None }
 
--- a request on the way to the server may still arrive
+-- the requests on broken connections after one more connection breaks: its request may still arrive
 abbrev pub overdue : {F : Type 0} → Option (Request F) → List (Request F) → List (Request F)
 overdue None late = late
 overdue (Some r) late = r ∷ late
 
--- its connection breaks, or it crashes and is started again: it knows only its records
+-- the producer after its connection breaks, or after it crashes and is started again: it knows only its records
 abbrev pub breaks : {F : Type 0} → Producer F → Producer F
 breaks p = record { stage = asking; sent = None; answer = None; late = overdue p.sent p.late }

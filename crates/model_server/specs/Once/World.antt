@@ -1,4 +1,4 @@
--- A producer, a stream with a group, and a consumer with its file; and the possible events.
+-- A producer, a stream with a group, a consumer with its file, and the events that change them.
 use Rattle.std.specs.Prelude.{ℕ, List, [], ◌∷◌, Bool, Some, if◌then◌else◌}
 use Rattle.std.specs.Option.{is_none}
 use Rattle.model_server.specs.Group.Worker.{Id, Verdict, acknowledged}
@@ -26,20 +26,20 @@ pub record World (F : Type 0) : Type 0 where
 abbrev pub first_world : {F : Type 0} → World F
 first_world = record { stream = empty_world; producer = new_producer; consumer = new_consumer }
 
--- the possible events. A lost message never arrives
+-- the possible events. A message that is lost never arrives
 pub data Event (F : Type 0) : Type 0 where
-  -- the producer sends its next request, a batch of at most `count` records or one for the last id, in one write
+  -- the producer sends its next request, in one write: a batch of at most `count` records, or a request for the last id
   Send : (count : ℕ) → Event F
-  -- that arrives at the server, which executes it, or refuses it as a whole
+  -- the producer's request arrives at the server, which executes it, or refuses it as a whole
   Arrive : (executes : Bool) → Event F
-  -- the same for a request that was sent on a connection that broke
+  -- the request at index `which` of `late` arrives: it was sent on a connection that broke
   Arrive_late : (which : ℕ) (executes : Bool) → Event F
   -- the reply arrives at the producer
   Hear : Event F
   -- the producer's connection breaks, or the producer crashes and is started again
   Break : Event F
-  -- the consumer requests entries, with COUNT n. If they are pending ones, the server picks among them, and returns the
-  -- id from which the next claim continues
+  -- the consumer requests entries, with COUNT `n`. `pick` is the server's choice of pending entries, and `next` the
+  -- start of the next claim
   Ask : (n : ℕ) (pick : Id → Bool) (next : Id) → Event F
   -- the reply arrives at the consumer, whose handler returns these verdicts for the entries
   Take : (verdicts : List Verdict) → Event F
@@ -51,21 +51,21 @@ pub data Event (F : Type 0) : Type 0 where
   Acknowledge_later : Event F
   -- the consumer's connection breaks
   Reconnect : Event F
-  -- the consumer crashes and is started again, to claim after `every` reads. In the file are `kept` lines that were
-  -- written and not synced, and it reads back `more` lines than necessary
+  -- the consumer crashes and is started again, to claim after `every` reads. `kept` lines that were not synced are in
+  -- the file. It reads back the lines of the last commit, and `more` lines before them
   Restart : (every kept more : ℕ) → Event F
-  -- other events of the server: entries that others add, deletions, late acknowledgements, other consumers, and
-  -- requests on connections that broke
+  -- another event of the server: XADD or XDEL by others, late XACKs, other consumers, or requests on connections that
+  -- broke
   Else : (event : group.Event F) → Event F
 
--- the consumer requests entries, and the reply is on the way
+-- the world after the consumer requests entries: the reply is on the way
 abbrev pub asked : {F : Type 0} → Name → ℕ → (Id → Bool) → Id → World F → World F
 asked name n pick next w = record w {
   stream = after_asking name n pick next w.consumer.machine.phase w.stream;
   consumer = record w.consumer { answer = Some (answer_for name n pick next w.consumer.machine.phase w.stream) };
 }
 
--- an XACK arrives at the server, and its reply is on the way
+-- the world after the consumer's XACK arrives at the server: the reply is on the way
 abbrev pub acknowledges : {F : Type 0} → Name → World F → World F
 acknowledges name w = record w {
   stream = ack_comes w.stream (Some (name, w.consumer.machine.to_acknowledge));
@@ -96,7 +96,7 @@ happens s w Reconnect = record w { consumer = reconnects w.consumer }
 happens s w (Restart every kept more) = record w { consumer = restarts every kept more w.consumer }
 happens s w (Else event) = record w { stream = group.happens w.stream event }
 
--- a whole schedule
+-- the world after these events, in order
 abbrev pub run : {F : Type 0} → Setting F → List (Event F) → World F → World F
 run s [] w = w
 run s (e ∷ es) w = run s es (happens s w e)
