@@ -22,7 +22,7 @@ abbrev pub times_alone : {F : Type 0} → Id → List (Event F) → World F → 
 times_alone id [] w = 0
 times_alone id (e ∷ es) w = alone id (again w e) + times_alone id es (happens w e)
 
--- each event redelivers at most one entry, as if each request for pending entries has COUNT 1
+-- each event redelivers at most one entry, as with COUNT 1 in each request for pending entries
 abbrev pub OneAtATime : {F : Type 0} → List (Event F) → World F → Type 0
 OneAtATime [] w = Unit {0}
 OneAtATime (e ∷ es) w = (length (again w e) ≤ 1) × OneAtATime es (happens w e)

@@ -77,7 +77,7 @@ pub data Event (F : Type 0) : Type 0 where
   Go_back : (consumer : Name) → Event F
   -- the worker crashes and is started again: it loses its state, and the entries that are not committed. A commit that
   -- the crash interrupted may keep the entries that `keeps` selects, which are then committed. The new worker has those
-  -- of `ids` to acknowledge that are committed. There may be none
+  -- of `ids` to acknowledge that are committed. `ids` may be empty
   Crash : (consumer : Name) (every : ℕ) (keeps : Entry F → Bool) (ids : List Id) → Event F
 
 -- as `slice::get`: the item at index `n`, or `None` if there is none

@@ -72,7 +72,7 @@ requested count all (knows known) = waiting known (next_batch count known all)
 requested count all (waits known sent) = waits known sent
 
 -- the stage after a reply. The last id determines how many records are in the stream. A batch that was executed adds
--- its own to them. After a refusal the producer requests the last id again
+-- its `sent` records to them. After any other reply the producer requests the last id again
 abbrev pub learns : ℕ → Stage → Answer → Stage
 learns base asking (last_is last) = knows (last.0 - base)
 learns base asking executed = asking
@@ -82,7 +82,7 @@ learns base (waits known sent) refused = asking
 learns base (waits known sent) (last_is last) = asking
 learns base (knows known) answer = asking
 
--- the number of records that it knows to be in the stream
+-- the number of records that the producer knows to be in the stream
 abbrev pub known_in : Stage → ℕ
 known_in asking = 0
 known_in (knows known) = known

@@ -34,7 +34,7 @@ abbrev pub filled : {F : Type 0} → Bool → group.World F → Request F → gr
 filled executes w ask_last = w
 filled executes w (batch records) = if executes then add_all w records else w
 
--- the reply to a request, if the server executes or refuses it
+-- the reply to a request, which the server executes or refuses
 abbrev pub answer_to : {F : Type 0} → Bool → group.World F → Request F → Answer
 answer_to executes w ask_last = if executes then last_is w.last else refused
 answer_to executes w (batch records) = if executes then executed else refused
@@ -54,7 +54,7 @@ abbrev pub hears : {F : Type 0} → ℕ → Option Answer → Producer F → Pro
 hears base None p = p
 hears base (Some a) p = record p { stage = learns base p.stage a; answer = None }
 
--- the requests on broken connections after one more connection breaks: its request may still arrive
+-- `late` with the request on the way, if there is one: it may still arrive after its connection breaks
 abbrev pub overdue : {F : Type 0} → Option (Request F) → List (Request F) → List (Request F)
 overdue None late = late
 overdue (Some r) late = r ∷ late

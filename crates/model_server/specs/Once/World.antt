@@ -10,7 +10,7 @@ use Rattle.model_server.specs.Once.Producer.{Producer, new_producer, sends, arri
 use Rattle.model_server.specs.Once.Consumer.{Consumer, new_consumer, is_idle, after_asking, answer_for, takes, commits, restarts}
 use Rattle.model_server.specs.Once.Consumer.{reconnects}
 
--- the values that never change
+-- the parameters of a schedule: no event changes them
 pub record Setting (F : Type 0) : Type 0 where
   pub records : List F  -- the records that the producer adds
   pub base : ℕ  -- the first record has the id `(base + 1)-0`
@@ -47,7 +47,7 @@ pub data Event (F : Type 0) : Type 0 where
   Sync : Event F
   -- the consumer sends an XACK, which arrives at the server, and its reply is on the way
   Acknowledge_now : Event F
-  -- the consumer sends an XACK that may arrive at the server at any time, or never, and whose reply does not arrive
+  -- the consumer sends an XACK that may arrive at the server at any time, or never. Its reply does not arrive
   Acknowledge_later : Event F
   -- the consumer's connection breaks
   Reconnect : Event F

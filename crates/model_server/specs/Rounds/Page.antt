@@ -22,7 +22,7 @@ module _ {F : Type 0} where
   first_of zero meant (e ∷ es) = []
   first_of (suc n) meant (e ∷ es) = if meant e.0 then e ∷ first_of n meant es else first_of (suc n) meant es
 
-  -- the entries from the first one on that `meant` selects after those of `first_of`
+  -- the entries after those of `first_of`, from the next one on that `meant` selects
   abbrev pub beyond : ℕ → (Id → Bool) → List (Entry F) → List (Entry F)
   beyond n meant [] = []
   beyond zero meant (e ∷ es) = if meant e.0 then e ∷ es else beyond zero meant es
