@@ -106,6 +106,15 @@ pub pair_split : (p : List ℕ × List ℕ) (rest left : List ℕ) → left ≡ 
 unfolding pair_bytes
 pair_split p rest left is = is ∙ append_assoc (bulk_bytes p.0) (bulk_bytes p.1) rest
 
+-- a field begins with its name, and the value follows
+pub pair_begins : (limits : Limits) → AllowsRows limits → (left : List ℕ) (p : List ℕ × List ℕ) (rest : List ℕ)
+    → IsPair limits p → left ≡ pair_bytes p ++ rest
+    → BeginsWithText limits left p.0 (bulk_bytes p.1 ++ rest) × BeginsWithText limits (bulk_bytes p.1 ++ rest) p.1 rest
+pair_begins limits a left p rest h is = (
+  text_begins limits a left p.0 (bulk_bytes p.1 ++ rest) h.name (pair_split p rest left is),
+  text_begins limits a (bulk_bytes p.1 ++ rest) p.1 rest h.value refl,
+)
+
 -- ---- the fields of an entry, or nil
 
 -- the array that its elements make, and the bytes after them

@@ -21,7 +21,7 @@ use Rattle.stream_in_place.specs.Held.{Held}
 use Rattle.stream_in_place.specs.Sent.{Pairs, SentEntry, members_of, row_tree}
 use Rattle.stream_in_place.specs.Placed.{field_in, fields_if, delivery_if, own_fields, entry_in, IsField, IsEntry}
 use Rattle.stream_in_place.specs.Added.{FieldsAdded, OwnAdded, delivery_count, row_count, IsDeliveryAt, EntryAdded}
-use Rattle.stream_in_place.specs.Added.{IsForm, EntriesAdded}
+use Rattle.stream_in_place.specs.Added.{IsForm, EntriesAdded, IsFieldAt}
 use Rattle.stream_in_place.proofs.ManyLemmas.{no_more, many_first, many_append}
 
 -- the elements of an array
@@ -53,11 +53,13 @@ module _ (limits : Limits) (bytes : List ℕ) (at : ℕ) (old : Held) where
     reads = λ d. no_more (value_at limits (suc d)) (drop at bytes);
   }
 
-  pub fields_more : (i behind middle after : ℕ) (f : FieldPlace) (fields new : Held)
-      → FieldsAdded limits bytes at i behind old fields
-      → IsTextAt limits bytes behind f.name middle → IsTextAt limits bytes middle f.value after
+  pub fields_more : (i behind after : ℕ) (f : FieldPlace) (fields new : Held)
+      → FieldsAdded limits bytes at i behind old fields → IsFieldAt limits bytes behind f after
       → new ≡ with_fields fields (fields.fields ++ f ∷ []) → FieldsAdded limits bytes at (i + 1) after old new
-  fields_more i behind middle after f fields new h name val pushed =
+  fields_more i behind after f fields new h field pushed =
+      let middle = field.middle in
+      let name = field.name in
+      let val = field.value in
       let g = h.grown in
       record {
         grown = record {

@@ -8,6 +8,7 @@ use Rattle.redis_wire.specs.Reply.{value, values}
 use Rattle.redis_wire.specs.Group.{many}
 use Rattle.redis_wire.specs.Level.{value_at}
 use Rattle.redis_wire.specs.Grammar.{IsAnyReply}
+use Rattle.redis_wire.specs.Place.{IsTextAt}
 use Rattle.stream_in_place.specs.declared.places.FieldPlace.{FieldPlace}
 use Rattle.stream_in_place.specs.declared.places.EntryPlace.{EntryPlace}
 use Rattle.stream_in_place.specs.declared.places.StreamPlace.{StreamPlace}
@@ -15,6 +16,12 @@ use Rattle.stream_in_place.specs.Held.{Held}
 use Rattle.stream_in_place.specs.Sent.{SentStream, members_of, fields_tree, delivery_trees, row_tree, rows_tree}
 use Rattle.stream_in_place.specs.Sent.{stream_tree, IsReadTree}
 use Rattle.stream_in_place.specs.Placed.{field_in, fields_if, delivery_if, entry_in, stream_in, IsField, IsEntry, IsStream}
+
+-- At `at` there are the name and the value of a field, in bulk strings. They end at offset `after`.
+pub record IsFieldAt (limits : Limits) (bytes : List ℕ) (at : ℕ) (f : FieldPlace) (after : ℕ) : Type 0 where
+  pub middle : ℕ
+  pub name : IsTextAt limits bytes at f.name middle
+  pub value : IsTextAt limits bytes middle f.value after
 
 -- fields that were added, all of them within the bytes
 pub record FieldsGrown (bytes : List ℕ) (old new : Held) : Type 0 where

@@ -12,8 +12,8 @@ ghost use Rattle.stream_in_place.specs.Shapes.{NilForm, pair_bytes, fields_bytes
 ghost use Rattle.stream_in_place.specs.Shapes.{AllowsRows, IsPair, ArePairs, IsOfForm, IsEntryOf};
 
 use crate::form::Form;
-use crate::places::{EntryPlace, FieldPlace, Places};
-use crate::short::{bulk_at, count_at};
+use crate::places::{EntryPlace, Places};
+use crate::short::{bulk_at, count_at, field_at};
 use redis_wire::Limits;
 use redis_wire::place::{Span, int_at, nil_at};
 
@@ -79,13 +79,10 @@ fn add_fields<P: Places>(
 {
     let mut behind = at;
     for _ in 0..count {
-        let Some((name, after)) = bulk_at(limits, bytes, behind) else {
+        let Some((field, after)) = field_at(limits, bytes, behind) else {
             return Ok(None);
         };
-        let Some((value, after)) = bulk_at(limits, bytes, after) else {
-            return Ok(None);
-        };
-        places.push_field(FieldPlace { name, value })?;
+        places.push_field(field)?;
         behind = after;
     }
     Ok(Some(behind))

@@ -2,7 +2,9 @@
 ghost use Rattle.std.specs.Prelude.{◌≡◌, ◌≤◌, ◌+◌, ◌∷◌, ℕ, List, IfSome, IsSomeAnd, Some, drop, length, true};
 ghost use Rattle.redis_wire.specs.Place.{text_in, IsHeadAt, IsTextAt, IsArrayAt, BeginsWithHead, BeginsWithText};
 ghost use Rattle.redis_wire.specs.Place.{BeginsWithArray, EndsBefore};
+ghost use Rattle.stream_in_place.specs.Added.{IsFieldAt};
 
+use crate::places::FieldPlace;
 use redis_wire::Limits;
 use redis_wire::place::{Span, array_at, text_at};
 
@@ -28,18 +30,15 @@ fn is_crlf_at(bytes: &[u8], at: usize) -> bool
 fn one_digit_at(limits: Limits, bytes: &[u8], first: u8) -> Option<u32>
     requires length { 99 ≤ limits.length }
     requires line { 2 ≤ limits.line }
+    requires room { 4 ≤ length bytes.now }
     ensures head { IfSome result (λ n. BeginsWithHead limits bytes.now first (Some n) (drop 4 bytes.now)) }
     ensures small { IfSome result (λ n. n ≤ 99) }
 {
-    match bytes {
-        [kind, a, c, d, ..] => {
-            if *kind != first || !is_crlf(*c, *d) || !a.is_ascii_digit() {
-                return None;
-            }
-            Some((*a - b'0') as u32)
-        }
-        _ => None,
+    let digit = bytes[1];
+    if bytes[0] != first || !is_crlf(bytes[2], bytes[3]) || !digit.is_ascii_digit() {
+        return None;
     }
+    Some((digit - b'0') as u32)
 }
 
 /// The length after the first byte of a value, if it is two digits.
@@ -47,18 +46,19 @@ fn one_digit_at(limits: Limits, bytes: &[u8], first: u8) -> Option<u32>
 fn two_digits_at(limits: Limits, bytes: &[u8], first: u8) -> Option<u32>
     requires length { 99 ≤ limits.length }
     requires line { 2 ≤ limits.line }
+    requires room { 5 ≤ length bytes.now }
     ensures head { IfSome result (λ n. BeginsWithHead limits bytes.now first (Some n) (drop 5 bytes.now)) }
     ensures small { IfSome result (λ n. n ≤ 99) }
 {
-    match bytes {
-        [kind, a, b, c, d, ..] => {
-            if *kind != first || !is_crlf(*c, *d) || !a.is_ascii_digit() || !b.is_ascii_digit() {
-                return None;
-            }
-            Some(10 * (*a - b'0') as u32 + (*b - b'0') as u32)
-        }
-        _ => None,
+    let (a, b) = (bytes[1], bytes[2]);
+    if bytes[0] != first
+        || !is_crlf(bytes[3], bytes[4])
+        || !a.is_ascii_digit()
+        || !b.is_ascii_digit()
+    {
+        return None;
     }
+    Some(10 * (a - b'0') as u32 + (b - b'0') as u32)
 }
 
 /// Returns the text of `len` bytes at `start`, whose header is at offset `at`, and the offset after its
@@ -76,6 +76,7 @@ fn text_from(
     ensures is { IfSome result (λ x. IsTextAt limits bytes.now at x.0 x.1) }
     ensures found { (text rest : List ℕ) → BeginsWithText limits (drop at bytes.now) text rest
         → IfSome result (λ x. (text_in bytes.now x.0 ≡ text) × EndsBefore bytes.now rest x.1) }
+    ensures end { IfSome result (λ x. x.1 ≡ start + len + 2) }
 {
     if !is_crlf_at(bytes, start + len) {
         return None;
@@ -84,7 +85,29 @@ fn text_from(
 }
 
 /// Returns the text of the bulk string at offset `at`, and the offset of its end. `None` unless its length has
-/// one or two digits and 106 bytes are left. The longest such string has 106 bytes, so its end is never missing.
+/// one or two digits. The longest such string has 106 bytes, so its end is never missing.
+#[inline(always)]
+fn short_text_in(limits: Limits, bytes: &[u8], at: usize) -> Option<(Span, usize)>
+    requires length { 99 ≤ limits.length }
+    requires line { 2 ≤ limits.line }
+    requires room { at + 106 ≤ length bytes.now }
+    ensures is { IfSome result (λ x. IsTextAt limits bytes.now at x.0 x.1) }
+    ensures found { (text rest : List ℕ) → BeginsWithText limits (drop at bytes.now) text rest
+        → IfSome result (λ x. (text_in bytes.now x.0 ≡ text) × EndsBefore bytes.now rest x.1) }
+    ensures near { IfSome result (λ x. x.1 ≤ at + 106) }
+{
+    let (_, left) = bytes.split_at(at);
+    if let Some(len) = one_digit_at(limits, left, b'$') {
+        return text_from(limits, bytes, at, at + 4, len as usize);
+    }
+    match two_digits_at(limits, left, b'$') {
+        None => None,
+        Some(len) => text_from(limits, bytes, at, at + 5, len as usize),
+    }
+}
+
+/// Returns the text of the bulk string at offset `at`, and the offset of its end, if `short_text_in` can read it.
+/// `None` unless 106 bytes are left.
 #[inline(always)]
 fn short_text_at(limits: Limits, bytes: &[u8], at: usize) -> Option<(Span, usize)>
     requires { at ≤ length bytes.now }
@@ -95,14 +118,7 @@ fn short_text_at(limits: Limits, bytes: &[u8], at: usize) -> Option<(Span, usize
     if limits.length < 99 || limits.line < 2 || bytes.len() - at < 106 {
         return None;
     }
-    let (_, left) = bytes.split_at(at);
-    if let Some(len) = one_digit_at(limits, left, b'$') {
-        return text_from(limits, bytes, at, at + 4, len as usize);
-    }
-    match two_digits_at(limits, left, b'$') {
-        None => None,
-        Some(len) => text_from(limits, bytes, at, at + 5, len as usize),
-    }
+    short_text_in(limits, bytes, at)
 }
 
 /// Returns the text of the bulk string of any length at offset `at`, and the offset of its end.
@@ -130,6 +146,52 @@ pub fn bulk_at(limits: Limits, bytes: &[u8], at: usize) -> Option<(Span, usize)>
     }
     let (Span { start, len }, after) = any_text_at(limits, bytes, at)?;
     Some((Span { start, len }, after))
+}
+
+/// Returns the field at offset `at`, a name and a value, and the offset of its end, if `short_text_in` can read both.
+/// `None` unless 212 bytes are left, so that one look at what is left does for both.
+#[inline(always)]
+fn short_field_at(limits: Limits, bytes: &[u8], at: usize) -> Option<(FieldPlace, usize)>
+    requires { at ≤ length bytes.now }
+    ensures is { IfSome result (λ x. IsFieldAt limits bytes.now at x.0 x.1) }
+    ensures found { (name value behind rest : List ℕ) → BeginsWithText limits (drop at bytes.now) name behind
+        → BeginsWithText limits behind value rest → IfSome result (λ x. EndsBefore bytes.now rest x.1) }
+{
+    if limits.length < 99 || limits.line < 2 || bytes.len() - at < 212 {
+        return None;
+    }
+    let (name, middle) = short_text_in(limits, bytes, at)?;
+    let (value, after) = short_text_in(limits, bytes, middle)?;
+    Some((FieldPlace { name, value }, after))
+}
+
+/// Returns the field of any length at offset `at`, and the offset of its end.
+#[inline(never)]
+fn any_field_at(limits: Limits, bytes: &[u8], at: usize) -> Option<(FieldPlace, usize)>
+    requires { at ≤ length bytes.now }
+    ensures is { IfSome result (λ x. IsFieldAt limits bytes.now at x.0 x.1) }
+    ensures found { (name value behind rest : List ℕ) → BeginsWithText limits (drop at bytes.now) name behind
+        → BeginsWithText limits behind value rest → IsSomeAnd result (λ x. EndsBefore bytes.now rest x.1) }
+{
+    let (name, middle) = bulk_at(limits, bytes, at)?;
+    let (value, after) = bulk_at(limits, bytes, middle)?;
+    Some((FieldPlace { name, value }, after))
+}
+
+/// Returns the field at offset `at`, a name and a value in bulk strings, and the offset of its end.
+/// The parts of a place are named, so that they stay in registers.
+#[inline(always)]
+pub fn field_at(limits: Limits, bytes: &[u8], at: usize) -> Option<(FieldPlace, usize)>
+    requires { at ≤ length bytes.now }
+    ensures is { IfSome result (λ x. IsFieldAt limits bytes.now at x.0 x.1) }
+    ensures found { (name value behind rest : List ℕ) → BeginsWithText limits (drop at bytes.now) name behind
+        → BeginsWithText limits behind value rest → IsSomeAnd result (λ x. EndsBefore bytes.now rest x.1) }
+{
+    if let Some((FieldPlace { name, value }, after)) = short_field_at(limits, bytes, at) {
+        return Some((FieldPlace { name, value }, after));
+    }
+    let (FieldPlace { name, value }, after) = any_field_at(limits, bytes, at)?;
+    Some((FieldPlace { name, value }, after))
 }
 
 /// Returns the number of elements of the array at offset `at`, and the offset of the end of its header.

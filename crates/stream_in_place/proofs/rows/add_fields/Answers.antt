@@ -2,7 +2,7 @@ use Rattle.std.proofs.Common.{rules, ◌≡◌, ◌++◌, arith, drop, refl, ap}
 use Rattle.redis_wire.specs.Packed.{bulk_bytes}
 use Rattle.stream_in_place.specs.Shapes.{pair_bytes, IsPair}
 use Rattle.stream_in_place.proofs.FillLemmas.{fields_start, fields_more}
-use Rattle.stream_in_place.proofs.BeginLemmas.{text_begins, pair_split, left_start, left_more, left_none, left_end}
+use Rattle.stream_in_place.proofs.BeginLemmas.{pair_begins, left_start, left_more, left_none, left_end}
 use Rattle.stream_in_place.specs.Held.{Held}
 use Rattle.stream_in_place.proofs.CountLemmas.{one_more}
 use Rattle.stream_in_place.proofs.rows.add_fields.Goals as goal
@@ -18,17 +18,13 @@ loop-init g c = record {
 pub loop-preserved : goal.loop-preserved
 loop-preserved g c = record {
   added = fields_more c.args.limits c.args.bytes.now c.args.at
-      (g.P.Places.held c.args.places.now) c.loop.counter c.loop.behind c.in-Some.after c.in-Some-bulk_at.after _
+      (g.P.Places.held c.args.places.now) c.loop.counter c.loop.behind c.in-Some.after c.in-Some.field
       (g.P.Places.held c.loop.places) (g.P.Places.held c.push_field.new.self)
-      c.loop.invariant.added c.in-Some.ensures.is c.in-Some-bulk_at.ensures.is
-      c.in_ok-push_field.ensures.holds;
+      c.loop.invariant.added c.in-Some.ensures.is c.in_ok-push_field.ensures.holds;
   left = left_more pair_bytes (IsPair c.args.limits) c.args.limits c.args.bytes.now c.args.at c.args.count
-      c.loop.counter c.loop.behind c.loop.invariant.left c.in-Some-bulk_at.after (omega arith) (λ p rest a h is.
-      let name = c.in-Some.ensures.found p.0 (bulk_bytes p.1 ++ rest)
-      (text_begins c.args.limits a (drop c.loop.behind c.args.bytes.now) p.0 (bulk_bytes p.1 ++ rest) h.name
-      (pair_split p rest (drop c.loop.behind c.args.bytes.now) is)) in
-      (c.in-Some-bulk_at.ensures.found p.1 rest
-      (text_begins c.args.limits a (drop c.in-Some.after c.args.bytes.now) p.1 rest h.value name.1)).1);
+      c.loop.counter c.loop.behind c.loop.invariant.left c.in-Some.after (omega arith) (λ p rest a h is.
+      let begins = pair_begins c.args.limits a (drop c.loop.behind c.args.bytes.now) p rest h is in
+      c.in-Some.ensures.found p.0 p.1 (bulk_bytes p.1 ++ rest) rest begins.0 begins.1);
   counted = omega (
     arith,
     one_more (g.P.Places.held c.push_field.new.self).fields (g.P.Places.held c.loop.places).fields _
@@ -52,19 +48,8 @@ pub returns-in_default-clause-found : goal.returns-in_default-clause-found
 returns-in_default-clause-found g c =
     left_none pair_bytes (IsPair c.args.limits) c.args.limits c.args.bytes.now c.args.at c.args.count
     c.loop.counter c.loop.behind c.loop.invariant.left (omega arith) (λ p rest a h is.
-    c.in_default.ensures.found p.0 (bulk_bytes p.1 ++ rest)
-    (text_begins c.args.limits a (drop c.loop.behind c.args.bytes.now) p.0 (bulk_bytes p.1 ++ rest) h.name
-    (pair_split p rest (drop c.loop.behind c.args.bytes.now) is)))
-
-pub returns-in_default-bulk_at-clause-found : goal.returns-in_default-bulk_at-clause-found
-returns-in_default-bulk_at-clause-found g c =
-    left_none pair_bytes (IsPair c.args.limits) c.args.limits c.args.bytes.now c.args.at c.args.count
-    c.loop.counter c.loop.behind c.loop.invariant.left (omega arith) (λ p rest a h is.
-    let name = c.in-Some.ensures.found p.0 (bulk_bytes p.1 ++ rest)
-    (text_begins c.args.limits a (drop c.loop.behind c.args.bytes.now) p.0 (bulk_bytes p.1 ++ rest) h.name
-    (pair_split p rest (drop c.loop.behind c.args.bytes.now) is)) in
-    c.in_default-bulk_at.ensures.found p.1 rest
-    (text_begins c.args.limits a (drop c.in-Some.after c.args.bytes.now) p.1 rest h.value name.1))
+    let begins = pair_begins c.args.limits a (drop c.loop.behind c.args.bytes.now) p rest h is in
+    c.in_default.ensures.found p.0 p.1 (bulk_bytes p.1 ++ rest) rest begins.0 begins.1)
 
 pub returns-clause-counts : goal.returns-clause-counts
 returns-clause-counts g c = omega (arith, c.loop.invariant.counted)

@@ -3,11 +3,11 @@ use Rattle.std.specs.Int.{IsInRange}
 use Rattle.stream_in_place.proofs.ShortLemmas.{one_digit_begins}
 use Rattle.stream_in_place.proofs.short.one_digit_at.Goals as goal
 
-pub returns-else-not-is_ascii_digit-clause-head : goal.returns-else-not-is_ascii_digit-clause-head
-returns-else-not-is_ascii_digit-clause-head c =
+pub returns-clause-head : goal.returns-clause-head
+returns-clause-head c =
     let bytes = c.args.bytes.now in
     let kind : slice_index bytes 0 ≡ c.args.first = search rules in
     let digit : IsInRange 48 57 (slice_index bytes 1) = search rules in
     let both = c.is_crlf.ensures (search rules) in
     one_digit_begins c.args.limits bytes c.args.first c.requires.length c.requires.line kind digit
-    c.in-len4-up.len_at_least both.0 both.1
+    c.requires.room both.0 both.1

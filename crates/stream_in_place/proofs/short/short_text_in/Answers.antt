@@ -1,6 +1,6 @@
 use Rattle.std.proofs.Common.{rules, Some, arith}
 use Rattle.stream_in_place.proofs.ShortLemmas.{head_stands}
-use Rattle.stream_in_place.proofs.short.short_text_at.Goals as goal
+use Rattle.stream_in_place.proofs.short.short_text_in.Goals as goal
 
 pub text_from-requires-clause-head : goal.text_from-requires-clause-head
 text_from-requires-clause-head c =
