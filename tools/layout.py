@@ -56,8 +56,8 @@ ExecStart={prefix}/bin/jagyerti {name} {words}
 Restart=on-failure
 RestartSec=5
 DynamicUser=yes
-StateDirectory=jagyerti
-WorkingDirectory=%S/jagyerti
+StateDirectory=jagyerti-%i
+WorkingDirectory=%S/jagyerti-%i
 ProtectSystem=strict
 ProtectHome=yes
 {more}
@@ -67,7 +67,7 @@ WantedBy=multi-user.target
 # Of each unit: what it is, its settings, the words of its command, and what else systemd has to know.
 UNITS = {
     "drain": ("Drain of a Redis stream into a file", "REDIS_URL, KEY, GROUP, CONSUMER and FILE, and\n"
-              "# in OPTIONS others of 'jagyerti drain'. A FILE that is no absolute path is in /var/lib/jagyerti.",
+              "# in OPTIONS others of 'jagyerti drain'. A FILE that is no absolute path is in /var/lib/jagyerti-NAME.",
               "${KEY} ${GROUP} ${CONSUMER} ${FILE} $OPTIONS", ""),
     # Only the command itself is to get the signal: it lets the job in hand end.
     "run": ("Jobs of a Redis stream", "REDIS_URL, KEY, GROUP, CONSUMER and COMMAND, and\n"

@@ -45,8 +45,9 @@ The first SIGTERM or SIGINT lets the job in hand end, and the jobs of its batch,
 SIGWINCH: one that takes it may reply 'stop' to the next line. Then all ends with status 0. A second signal ends it at
 once; jobs that were in hand come again.
 
-exit status: 0 after --until-empty, 'stop' or a signal; 1 if the server is not there, takes no login or, without --from, has
-no such group; 2 if words are wrong; 4 if COMMAND or its file is not there, or if it ends again and again.
+exit status: 0 after --until-empty, 'stop' or a signal; 1 if, without --from, there is no such group; 2 if words are wrong;
+4 if COMMAND or its file is not there, or if it ends again and again. With --retry TIMES also 1 if the server is not there,
+takes no login or refuses a command, 3 if it said nothing for too long, and 128 + N if the signal N ended stream_run.
 
 example: jagyerti run redis://127.0.0.1:6379 orders packers -- python3 pack.py
 """
