@@ -4,6 +4,7 @@ pub mod RequestLemmas
 pub mod TakenLemmas
 pub mod StepLemmas
 pub mod LineLemmas
+pub mod ExecutedLemmas
 pub mod QueuedLemmas
 pub mod SessionLemmas
 pub mod ScheduleLemmas

@@ -121,7 +121,7 @@ passes_more (suc n) m (suc k) old mid new e p q =
     let is : k ≡ n + m = omega (arith, e) in
     (q.0, passes_more n m k old mid q.0 is p q.1, q.2)
 
-receives_after : (old mid new : Link) (a : wire.Answer) → AwaitsAnswer old mid → ReceivesAnswer mid new a
+pub receives_after : (old mid new : Link) (a : wire.Answer) → AwaitsAnswer old mid → ReceivesAnswer mid new a
     → ReceivesAnswer old new a
 receives_after old mid new a w r =
     let b = passes_behind r.count w.between mid r.between new a w.waits r.passes r.receives in

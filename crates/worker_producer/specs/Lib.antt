@@ -3,6 +3,7 @@ pub mod Records
 pub mod Checked
 pub mod Sentences
 pub mod Errors
+pub mod Executed
 pub mod Replies
 pub mod Unheard
 pub mod Machine

@@ -141,7 +141,7 @@ fn append_head(out: &mut Vec<u8>, count: usize, fields: usize) -> Result<(), Wri
 }
 
 /// Writes the id `number-0`.
-fn write_id(id: &mut Vec<u8>, number: u64) -> Result<(), AllocError>
+pub fn write_id(id: &mut Vec<u8>, number: u64) -> Result<(), AllocError>
     ensures { OnOk result (id.new.items ≡ own_id number) }
 {
     id.clear();

@@ -12,6 +12,7 @@ mod confirming;
 mod counts;
 mod error;
 mod executed;
+mod executed_reply;
 mod filling;
 mod kept;
 mod last_id;

@@ -1,6 +1,6 @@
 //! A producer.
 ghost use Rattle.std.specs.Prelude.{◌≡◌, ◌⊎◌, ◌+◌, ◌<◌, ◌≤◌, ◌^◌, ◌++◌, IfErr, IfOk, OnErr, OnOk, false, length, map};
-ghost use Rattle.std.specs.Prelude.{string_bytes, true};
+ghost use Rattle.std.specs.Prelude.{IfSome, string_bytes, true};
 ghost use Rattle.redis_wire.specs.Reply.{answer};
 ghost use Rattle.worker_producer.specs.Learnt.{Learns, Took, Unlearnt, Untaken};
 ghost use Rattle.worker_producer.specs.Machine.{Asks, AsksNone, Sends, Sent, Unsent, idle};
@@ -10,11 +10,13 @@ ghost use Rattle.worker_producer.specs.Replies.{is_executed};
 ghost use Rattle.worker_producer.specs.Sentences.{ask_bytes, batch_bytes, head_of};
 ghost use Rattle.worker_producer.specs.Unheard.{IsCause, IsNoError, IsUnexecuted};
 ghost use Rattle.worker_producer.specs.declared.error.RequestError.TheVariants as causes;
+ghost use Rattle.worker_producer.specs.declared.stage.Stage.TheVariants as stages;
 ghost use Rattle.model_server.specs.Once.Feed.{asking, knows, numbered, waits};
 
 use crate::batch::{append_batch, append_question};
 use crate::error::{FeedError, RequestError};
 use crate::executed::read_executed;
+use crate::executed_reply::ExecutedReply;
 use crate::last_id::read_last_id;
 use crate::settings::Settings;
 use crate::source::{Record, Source};
@@ -77,6 +79,45 @@ impl Producer {
         ensures settings { self.new.settings ≡ self.old.settings }
     {
         self.coming -= 1;
+    }
+
+    /// The bytes of the reply to EXEC if each record of the batch that is on its way is added; `None` if no batch is on
+    /// its way, or if memory ran out.
+    pub(crate) fn expect_executed(&self, alloc: Global) -> Option<ExecutedReply> {
+        let Stage::Waits(batch) = self.stage else {
+            return None;
+        };
+        let Ok(before) = compute_id_before(self.settings.base, batch.known, batch.sent) else {
+            return None;
+        };
+        ExecutedReply::new(alloc, before, batch.sent).ok()
+    }
+
+    /// The batch on its way, if it has this number of records and its last reply comes next.
+    pub(crate) fn last_reply_of(&self, sent: u64) -> Option<OnTheWay>
+        ensures stage { IfSome result (λ batch. self.now.stage ≡ stages.Waits batch) }
+        ensures sent { IfSome result (λ batch. batch.sent ≡ sent) }
+        ensures coming { IfSome result (λ _. self.now.coming ≡ 1) }
+    {
+        match self.stage {
+            Stage::Waits(batch) => {
+                if self.coming != 1 || batch.sent != sent {
+                    return None;
+                }
+                Some(batch)
+            }
+            Stage::Asking | Stage::Knows(_) => None,
+        }
+    }
+
+    /// Takes the last reply to a batch whose records are all added.
+    pub(crate) fn count_executed(&mut self, batch: OnTheWay)
+        ensures coming { self.new.coming ≡ 0 }
+        ensures stage { stage_of self.new.stage ≡ knows (batch.known + batch.sent) }
+        ensures settings { self.new.settings ≡ self.old.settings }
+    {
+        self.stage = Stage::Knows(batch.known + batch.sent);
+        self.coming = 0;
     }
 
     /// Records that the connection was closed: no more replies are expected, and it reads the last id next. Call it

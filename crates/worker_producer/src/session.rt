@@ -8,6 +8,7 @@ ghost use Rattle.worker_producer.specs.Session.{BeginsAsLine, Breaks, Broke, Fai
 
 use crate::ahead::Prepared;
 use crate::error::{RequestError, RunError};
+use crate::executed_reply::ExecutedReply;
 use crate::producer::Producer;
 use crate::queued::receive_in_place;
 use crate::source::Source;
@@ -17,8 +18,8 @@ use std::alloc::Global;
 use std::io::{Read, Write};
 
 impl Producer {
-    /// Takes the replies that are still expected.
-    fn take_replies<R: Read + Drop, W: Write + Drop>(
+    /// Takes the replies that are still expected. The last one is not decoded if it has the ids of the whole batch.
+    fn take_all<R: Read + Drop, W: Write + Drop>(
         &mut self,
         alloc: Global,
         connection: &mut Connection<R, W>,
@@ -30,18 +31,38 @@ impl Producer {
             connection.new (standing_of self.old)) }
         ensures settings { self.new.settings ≡ self.old.settings }
     {
+        let expected = self.expect_executed(alloc);
+        self.take_replies(alloc, connection, count, &expected)
+    }
+
+    /// Takes the replies that are still expected. `expected` is the last one if each record of a batch is added.
+    fn take_replies<R: Read + Drop, W: Write + Drop>(
+        &mut self,
+        alloc: Global,
+        connection: &mut Connection<R, W>,
+        count: u64,
+        expected: &Option<ExecutedReply>,
+    ) -> Result<(), RunError>
+        ensures ok { OnOk result (HearsAll self.old.settings.base count connection.old
+            connection.new (standing_of self.old) (standing_of self.new)) }
+        ensures err { IfErr result (FailsToHear self.old.settings.base count connection.old
+            connection.new (standing_of self.old)) }
+        ensures settings { self.new.settings ≡ self.old.settings }
+    {
         for _reply in 0..self.coming() {
-            self.take_next(alloc, connection, count)?;
+            self.take_next(alloc, connection, count, expected)?;
         }
         Ok(())
     }
 
-    /// Takes the next reply. It does not decode a simple string that is not the last reply.
+    /// Takes the next reply. It does not decode a simple string that is not the last reply, nor the reply that is
+    /// expected.
     fn take_next<R: Read + Drop, W: Write + Drop>(
         &mut self,
         alloc: Global,
         connection: &mut Connection<R, W>,
         count: u64,
+        expected: &Option<ExecutedReply>,
     ) -> Result<(), RunError>
         ensures ok { OnOk result (HearsOne self.old.settings.base count connection.old
             connection.new (standing_of self.old) (standing_of self.new)) }
@@ -52,7 +73,10 @@ impl Producer {
         if self.coming() > 1 {
             return self.take_queued_reply(alloc, connection, count);
         }
-        self.hear_reply(alloc, connection, count)
+        match expected {
+            Some(expected) => self.take_executed(alloc, connection, count, expected),
+            None => self.hear_reply(alloc, connection, count),
+        }
     }
 
     /// Takes the next reply. At least one more is expected after it.
@@ -73,6 +97,56 @@ impl Producer {
             Ok(true) => Ok(()),
             Ok(false) => self.hear_reply(alloc, connection, count),
             Err(error) => Err(error),
+        }
+    }
+
+    /// Takes the next reply. It is the expected one if each record of a batch was added.
+    fn take_executed<R: Read + Drop, W: Write + Drop>(
+        &mut self,
+        alloc: Global,
+        connection: &mut Connection<R, W>,
+        count: u64,
+        expected: &ExecutedReply,
+    ) -> Result<(), RunError>
+        ensures ok { OnOk result (HearsOne self.old.settings.base count connection.old
+            connection.new (standing_of self.old) (standing_of self.new)) }
+        ensures err { IfErr result (Unheard self.old.settings.base count connection.old
+            connection.new (standing_of self.old)) }
+        ensures settings { self.new.settings ≡ self.old.settings }
+    {
+        match self.hears_executed(alloc, connection, expected) {
+            Ok(true) => Ok(()),
+            Ok(false) => self.hear_reply(alloc, connection, count),
+            Err(error) => Err(error),
+        }
+    }
+
+    /// Takes the next reply if it is the expected one. Returns whether it is; if not, the reply is not taken.
+    fn hears_executed<R: Read + Drop, W: Write + Drop>(
+        &mut self,
+        alloc: Global,
+        connection: &mut Connection<R, W>,
+        expected: &ExecutedReply,
+    ) -> Result<bool, RunError>
+        ensures taken { result ≡ Ok true → (base : ℕ) (count : ℕ) → HearsOne base count
+            connection.old connection.new (standing_of self.old) (standing_of self.new) }
+        ensures held { result ≡ Ok false → AwaitsAnswer connection.old connection.new }
+        ensures same { result ≡ Ok false → self.new ≡ self.old }
+        ensures err { IfErr result (λ e. (base : ℕ) (count : ℕ) → Unheard base count
+            connection.old connection.new (standing_of self.old) e) }
+        ensures settings { self.new.settings ≡ self.old.settings }
+    {
+        match expected.receive(alloc, connection) {
+            Ok(true) => {
+                let Some(batch) = self.last_reply_of(expected.sent()) else {
+                    return Ok(false);
+                };
+                connection.give_out(expected.len());
+                self.count_executed(batch);
+                Ok(true)
+            }
+            Ok(false) => Ok(false),
+            Err(error) => Err(RunError::Receive(error)),
         }
     }
 
@@ -148,7 +222,7 @@ impl Producer {
             return Err(RunError::Send(error));
         }
         self.announce_next(alloc, source);
-        self.take_replies(alloc, connection, count)?;
+        self.take_all(alloc, connection, count)?;
         Ok(asked)
     }
 
@@ -175,7 +249,7 @@ impl Producer {
             return Err(RunError::Send(error));
         }
         *ahead = self.prepare_next(alloc, source);
-        self.take_replies(alloc, connection, count)?;
+        self.take_all(alloc, connection, count)?;
         Ok(asked)
     }
 
