@@ -1,31 +1,21 @@
-"""A second reader of the RESP protocol, and the frame in which readers are compared with the program cases: for
-compare-wire, compare-refs, compare-full, compare-hiredis and compare-slots."""
+"""Replies of RESP as the program test_cases shows them, by a second reader, and the frame in which what others read is
+compared with it: for compare-wire, compare-hiredis and compare-slots."""
 import collections
-import contextlib
 import random
 import re
 import subprocess
 import unicodedata
 
-from shared import fail, program_of, text_of, words_of
+from shared import fail, program_of, text_of
+from tests import resp
+from tests.stored import mutated
 
-CASES = "crates/test_cases"
 CHUNK = 50_000
+IN_ALL_WAYS = 50  # of so many replies one is read in all ways
 PRINTED = 4  # so many answers that differ are printed of a sort
-DEPTH, LENGTH, LINE = 128, 536_870_912, 65_536
 NAMED = {9: "\\t", 10: "\\n", 13: "\\r", 92: "\\\\"}  # bytes with a spelling of their own in a case
-SPELLING = re.compile(rb"\\(?:x([0-9a-f]{2})|([rnt\\]))|\\|[^\\]+")
-REFUSED = re.compile(r"refused \w+: [^;]*")
-SIMPLE, SIZED = (b"+", b"-", b":", b"_", b"#", b",", b"("), (b"$", b"!", b"=", b"*", b"~", b"%", b"|")
+NIL = b"_", b""
 GROUPS = {b"*": "Array", b"~": "Set", b"%": "Map", b"|": "Attribute"}
-# How texts are written that may not be any: doubles, big numbers, nil, booleans, and texts with their format.
-WRITTEN = {
-    b",": re.compile(rb"[+-]?[0-9]+(\.[0-9]+)?([eE][+-]?[0-9]+)?|-?inf|-?nan"),
-    b"(": re.compile(rb"[+-]?[0-9]+"),
-    b"_": re.compile(b""),
-    b"#": re.compile(b"[tf]"),
-    b"=": re.compile(b".{3}:.*", re.S),
-}
 
 
 def spelled(data):
@@ -35,56 +25,52 @@ def spelled(data):
 
 def bytes_of(text):
     """The bytes that the text of a case spells, None if it spells none."""
-    letters, data = {b"r": b"\r", b"n": b"\n", b"t": b"\t", b"\\": b"\\"}, b""
-    for part in SPELLING.finditer(text.encode()):
-        if part[0] == b"\\":
-            return None
-        data += bytes.fromhex(part[1].decode()) if part[1] else letters[part[2]] if part[2] else part[0]
-    return data
+    is_spelled = re.fullmatch(r"(?:[^\\]|\\x[0-9a-f]{2}|\\[rnt\\])*", text)
+    return text.encode().decode("unicode_escape").encode("latin-1") if is_spelled else None
 
 
-class Short(Exception):
-    """The bytes end before the value does."""
+class Reader(resp.Reader):
+    """Reads a reply as its first byte, and what it has: bytes, or for a group a list of replies."""
 
+    def scalar(self, kind, text):
+        super().scalar(kind, text)
+        return kind, text
 
-class Refused(Exception):
-    """The bytes are no value, however they go on."""
+    def text(self, kind):
+        found = super().text(kind)
+        if found is None:
+            return NIL
+        size = len(found.text if kind == b"!" else found) + (4 if kind == b"=" else 0)
+        return kind, self.data[self.at - 2 - size:self.at - 2]
 
+    def group(self, kind, depth):
+        size = self.length()
+        if size is None and kind == b"*":
+            return NIL
+        if size is None:
+            raise resp.Refused
+        return kind, [self.value(depth - 1) for _ in range({b"%": 2 * size, b"|": 2 * size + 1}.get(kind, size))]
 
-def ended(data, at):
-    if len(data) == at or (len(data) == at + 1 and data[at] == 13):
-        raise Short
-    if data[at : at + 2] != b"\r\n":
-        raise Refused
-    return at + 2
-
-
-def line(data, at):
-    end = re.compile(rb"[^\r\n]*").match(data, at).end()
-    if end - at > LINE:
-        raise Refused
-    return data[at:end], ended(data, end)
-
-
-def number(text):
-    if not re.fullmatch(rb"[+-]?[0-9]+", text) or not -(2**63) <= int(text) < 2**63:
-        raise Refused
-    return int(text)
-
-
-def length(data, at):
-    text, at = line(data, at)
-    if text == b"-1":
-        return None, at
-    if text[:1] in (b"+", b"-") or number(text) > LENGTH:
-        raise Refused
-    return int(text), at
+    def reply(self):
+        """A value, or a message that the server pushes: its kind, a string of text, and values."""
+        if self.data[:1] != b">":
+            return self.value()
+        self.at = 1
+        size = self.length()
+        if not size or self.data[self.at:self.at + 1] not in (b"", b"+", b"$"):
+            raise resp.Refused
+        first = self.value()
+        if first == NIL or not is_text(first[1]):
+            raise resp.Refused
+        return b">", [first] + [self.value(resp.DEPTH - 1) for _ in range(size - 1)]
 
 
 def is_text(data):
-    with contextlib.suppress(UnicodeDecodeError):
-        return data.decode() is not None
-    return False
+    try:
+        data.decode()
+    except UnicodeDecodeError:
+        return False
+    return True
 
 
 def quoted(text):
@@ -96,75 +82,6 @@ def quoted(text):
         return named.get(ord(c)) or (c if is_drawn else "\\u{%x}" % ord(c))
 
     return '"' + "".join(map(one, text)) + '"'
-
-
-# A reply is its first byte, and what it has: bytes, or for a group a list of replies. Nil is (b"_", b"").
-
-
-def bulk(data, at, size):
-    """A text of this size, and the end of it."""
-    if len(data) - at < size:
-        raise Short
-    return data[at : at + size], ended(data, at + size)
-
-
-def value(data, at, depth):
-    if depth == 0:
-        raise Refused
-    if at == len(data):
-        raise Short
-    kind = data[at : at + 1]
-    if kind in SIMPLE:
-        text, at = line(data, at + 1)
-        return (kind, checked(kind, text)), at
-    if kind not in SIZED:
-        raise Refused
-    size, at = length(data, at + 1)
-    if size is None:
-        if kind not in (b"$", b"*"):
-            raise Refused
-        return (b"_", b""), at
-    if kind in GROUPS:
-        members, at = values(data, at, depth - 1, {b"%": 2 * size, b"|": 2 * size + 1}.get(kind, size))
-        return (kind, members), at
-    text, at = bulk(data, at, size)
-    return (kind, checked(kind, text)), at
-
-
-def values(data, at, depth, count):
-    members = []
-    for _ in range(count):
-        member, at = value(data, at, depth)
-        members.append(member)
-    return members, at
-
-
-def checked(kind, text):
-    """The text of a reply, if it is one of this kind."""
-    if kind == b":":
-        number(text)
-    elif kind in WRITTEN and not WRITTEN[kind].fullmatch(text):
-        raise Refused
-    return text
-
-
-def push(data, at):
-    """A message that the server pushes: its kind, a simple or a bulk string that is a text, and values."""
-    count, at = length(data, at)
-    if not count:
-        raise Refused
-    if at < len(data) and data[at:at + 1] not in (b"+", b"$"):
-        raise Refused
-    (kind, text), at = value(data, at, DEPTH)
-    if kind == b"_" or not is_text(text):
-        raise Refused
-    members, at = values(data, at, DEPTH - 1, count - 1)
-    return (b">", [(b"+", text), *members]), at
-
-
-def read(data):
-    """The reply at the beginning of some bytes, and its end."""
-    return push(data, 1) if data[:1] == b">" else value(data, 0, DEPTH)
 
 
 # How the program shows a reply.
@@ -211,37 +128,15 @@ def value_shown(reply):
 
 
 def answer(data):
+    """What the program has to say of bytes, but for the reason why it refuses them."""
+    reader = Reader(data)
     try:
-        reply, end = read(data)
-    except Short:
+        reply = reader.reply()
+    except resp.Short:
         return "incomplete"
-    except Refused:
+    except resp.Refused:
         return "refused"
-    return f"{end} {shown(reply)}"
-
-
-def mutated(chosen, data, marks=b"0123456789-+$*:%~>|#_,(!=\r\n"):
-    """The bytes with one to three changes; a mark, and '?', may come in the place of a byte, and a mark before one."""
-    data = bytearray(data)
-    for _ in range(chosen.choice((1, 1, 1, 2, 3))):
-        at, what = chosen.randrange(len(data) + 1), chosen.randrange(6)
-        if what == 0 and at < len(data):
-            data[at] = chosen.randrange(256)
-        elif what == 1 and at < len(data):
-            data[at] = chosen.choice(marks + b"?")
-        elif what == 2 and at < len(data):
-            del data[at:at + chosen.randrange(1, 4)]
-        elif what == 3:
-            data[at:at] = bytes([chosen.choice(marks)])
-        elif what == 4:
-            del data[at:]
-        else:
-            data[at:at] = data[:chosen.randrange(1, 9)]
-    return bytes(data)
-
-
-def same(ours, theirs):
-    return ours == theirs or (ours == "refused" and REFUSED.fullmatch(theirs) is not None)
+    return f"{reader.at} {shown(reply)}"
 
 
 def answers_of(lines):
@@ -252,45 +147,26 @@ def answers_of(lines):
     return answers if len(answers) == len(lines) else fail(f"{len(answers)} answers to {len(lines)} cases")
 
 
-def stored(kinds):
-    """The lines of these kinds in the program's stored input, as their parts."""
-    lines = [line.split("\t") for line in text_of(f"{CASES}/stdin").split("\n")]
-    return [line for line in lines if line[0] in kinds]
+def replies():
+    """The replies of the kind 'wire' in the program's stored input."""
+    lines = [line.split("\t") for line in text_of("crates/test_cases/stdin").split("\n")]
+    return list(filter(None, (bytes_of(line[1]) for line in lines if line[0] == "wire")))
 
 
-def stored_bytes(kinds):
-    """The same of cases that spell bytes: each a kind and these."""
-    cases = [(line[0], bytes_of(line[1])) for line in stored(kinds)]
-    return [case for case in cases if case[1] is not None]
+def compare(count, seed, stored, change, read):
+    """Changes stored replies at random, so many, and compares what the program reads in each with what is read here.
 
-
-def spelled_case(case):
-    """A kind and bytes as a line of cases."""
-    return case[0], spelled(case[1])
-
-
-def compare(count, seed, cases, form, spell, read):
-    """Changes cases at random, so many, and compares what the program says of each with what is read here.
-
-    Takes the cases; what changes one, which is given its number and a source of chance; how one is spelled as a line of
-    cases; and what reads one, and returns what is read here, the sort of that, and whether it is the same as what the
-    program says. Prints some that differ, and returns how many do of each sort."""
+    Takes what changes one, by a source of chance, and what reads one: it returns what is read here, the sort of that,
+    and whether it is the same as what the program says. Prints some that differ; returns how many do of each sort."""
     chance, tally, apart = random.Random(seed), collections.Counter(), collections.Counter()
     for done in range(0, count, CHUNK):
-        changed = [form(number, chance, chance.choice(cases)) for number in range(min(CHUNK, count - done))]
-        for case, theirs in zip(changed, answers_of([spell(case) for case in changed])):
-            ours, sort, is_same = read(case, theirs)
+        changed = [change(chance, chance.choice(stored)) for _ in range(min(CHUNK, count - done))]
+        lines = [("decoded" if at % IN_ALL_WAYS else "wire", spelled(data)) for at, data in enumerate(changed)]
+        for data, theirs in zip(changed, answers_of(lines)):
+            ours, sort, is_same = read(data, theirs)
             tally[sort] += 1
             apart[sort] += not is_same
             if not is_same and apart[sort] <= PRINTED:
-                print(case, "\n  here:    ", ours[:300], "\n  program: ", theirs[:300])
+                print(data, "\n  here:    ", ours[:300], "\n  program: ", theirs[:300])
     print(f"{count} mutations, {dict(tally)}: {apart.total()} answers differ")
     return apart
-
-
-def run(doc, *how):
-    """Does what the words of a tool say. Returns its status."""
-    words = words_of(doc, "WHAT", ("COUNT", 0), ("SEED", 0))
-    if words.WHAT != "mutations":
-        fail("WHAT is mutations")
-    return 1 if compare(words.COUNT, words.SEED, *how).total() else 0
