@@ -28,17 +28,16 @@
 //! For each line the number of runs and the faults in them are printed. Then how many files differ from
 //! the records, and how many of these have a line twice, lack one, or have one of no record. If a file
 //! differs in none of these ways, its lines are in another order.
-ghost use Rattle.std.specs.Prelude.{IfOk, IsTrue};
-ghost use Rattle.test_sessions.specs.Scripts.{is_both_ends_script};
 
-use crate::push_line;
+use crate::producer::records_of;
+use crate::{claim_settings, next, number_of, parted, push_line};
 use redis_wire::{Decoded, Limits, Reply, ReplyStream, WireError, decode};
 use server_commands::{Client, Server};
 use std::alloc::{AllocError, Global};
 use std::mem;
 use worker::{
-    AnswerError, EntryRef, Handler, InPlaceError, MakeGroup, NotCommitted, Progress, RequestError,
-    Settings, Verdict, Worker, WorkerError,
+    AnswerError, EntryRef, Handler, InPlaceError, NotCommitted, Progress, RequestError, Settings,
+    Verdict, Worker, WorkerError,
 };
 use worker_journal::{LineLog, LogFile, TornFile, entry_in, push_escaped, push_field};
 use worker_producer::{FeedError, Producer, Record, Settings as FeedSettings, Stage};
@@ -57,21 +56,8 @@ struct Plan {
     guesses: bool,
 }
 
-/// Plays a script of this name. Returns whether the script is one.
-pub fn play(alloc: Global, name: &str, lines: &str, out: &mut String) -> Result<bool, AllocError>
-    ensures { IfOk result (λ played. IsTrue played → IsTrue (is_both_ends_script name.now)) }
-{
-    match name {
-        "both-ends" => {
-            play_lines(alloc, lines, out)?;
-            Ok(true)
-        }
-        _ => Ok(false),
-    }
-}
-
 /// Plays each line, and prints it with its outcome.
-fn play_lines(alloc: Global, lines: &str, out: &mut String) -> Result<(), AllocError> {
+pub fn play(alloc: Global, lines: &str, out: &mut String) -> Result<(), AllocError> {
     for line in lines.lines() {
         out.push_str(line)?;
         out.push('\t')?;
@@ -82,7 +68,7 @@ fn play_lines(alloc: Global, lines: &str, out: &mut String) -> Result<(), AllocE
 
 /// Plays the runs of a line, and returns their outcome.
 fn play_line(alloc: Global, line: &str) -> Result<String, AllocError> {
-    let (name, words) = parted(line);
+    let (name, words) = parted(line, ' ');
     if name == "calm" {
         return String::from_str(alloc, calm_text(plays_calmly(alloc, plan_of(words))?));
     }
@@ -100,7 +86,7 @@ fn calm_text(is_same: bool) -> &'static str {
 
 /// Plays the runs of a line.
 fn play_runs(alloc: Global, name: &str, words: &str) -> Result<Tally, AllocError> {
-    let (end, rest) = parted(words);
+    let (end, rest) = parted(words, ' ');
     let plan = plan_of(rest);
     match name {
         "cut" => cuts(alloc, plan, end_of(end)),
@@ -110,16 +96,6 @@ fn play_runs(alloc: Global, name: &str, words: &str) -> Result<Tally, AllocError
         "random" => schedules(alloc, plan, number_of(end), plan.records),
         _ => Ok(Tally::new()),
     }
-}
-
-/// Returns the first word, and the other words.
-fn parted(words: &str) -> (&str, &str) {
-    words.split_once(' ').unwrap_or((words, ""))
-}
-
-/// Parses a word as a number; 0 if it is not one.
-fn number_of(word: &str) -> usize {
-    word.parse().unwrap_or(0)
 }
 
 /// The end of this name.
@@ -143,9 +119,9 @@ fn has_word(words: &str, word: &str) -> bool {
 
 /// The plan of three numbers and the words after them.
 fn plan_of(words: &str) -> Plan {
-    let (records, rest) = parted(words);
-    let (batch, rest) = parted(rest);
-    let (page, _) = parted(rest);
+    let (records, rest) = parted(words, ' ');
+    let (batch, rest) = parted(rest, ' ');
+    let (page, _) = parted(rest, ' ');
     Plan {
         records: number_of(records),
         batch: number_of(batch),
@@ -164,7 +140,7 @@ fn plan_of(words: &str) -> Plan {
 const NEVER: usize = usize::MAX;
 
 /// The result of a turn of an end.
-#[derive(Clone, Copy, PartialEq, Eq)]
+#[derive(Clone, Copy)]
 enum Turn {
     Done,
     /// The connection broke.
@@ -245,9 +221,10 @@ fn passing<'a>(left: &mut usize, bytes: &'a [u8]) -> (&'a [u8], &'a [u8]) {
 impl Link {
     /// A connection without a fault.
     fn new(alloc: Global, server: &mut Server, is_resp3: bool) -> Result<Link, AllocError> {
+        let client = client_of(alloc, server, is_resp3)?;
         Ok(Link {
             is_resp3,
-            client: client_of(alloc, server, is_resp3)?,
+            client,
             replies: ReplyStream::new(alloc, Limits::default()),
             unsent: Vec::new(alloc),
             late: None,
@@ -409,31 +386,20 @@ struct Feed {
 fn producer_of(alloc: Global, batch: usize) -> Result<Producer, AllocError> {
     match FeedSettings::new(String::from_str(alloc, "k")?, BASE, batch) {
         Ok(settings) => Ok(Producer::new(settings)),
-        Err(_) => Err(AllocError),
+        Err(_error) => Err(AllocError),
     }
-}
-
-/// Returns `count` records, each with its number.
-fn records_of(alloc: Global, count: usize) -> Result<Vec<Record>, AllocError> {
-    let mut records = Vec::new(alloc);
-    for index in 0..count {
-        let number = index.saturating_add(1);
-        let name = String::from_str(alloc, "n")?.into_bytes();
-        let value = format!(in alloc; "{number}")?.into_bytes();
-        let mut record = Vec::new(alloc);
-        record.push((name, value))?;
-        records.push(record)?;
-    }
-    Ok(records)
 }
 
 /// A new producer, and its connection.
 fn feed_of(alloc: Global, server: &mut Server, plan: Plan) -> Result<Feed, AllocError> {
+    let records = records_of(alloc, 1, plan.records)?;
+    let producer = producer_of(alloc, plan.batch)?;
+    let link = Link::new(alloc, server, plan.is_resp3)?;
     Ok(Feed {
-        producer: producer_of(alloc, plan.batch)?,
-        records: records_of(alloc, plan.records)?,
+        producer,
+        records,
         batch: plan.batch,
-        link: Link::new(alloc, server, plan.is_resp3)?,
+        link,
         restarts: plan.restarts,
         guesses: plan.guesses,
         is_refused: false,
@@ -467,7 +433,7 @@ fn feed_turn(
         return Ok(Turn::Done);
     }
     let turn = feed.link.exchange(alloc, server, now, &question)?;
-    if turn == Turn::Killed {
+    if matches!(turn, Turn::Killed) {
         return Ok(turn);
     }
     hear_all(alloc, feed, turn)
@@ -627,17 +593,7 @@ struct Drain {
 
 /// The settings of the worker. Scripts use only counts from 1 to 10,000.
 fn settings_of(alloc: Global, page: usize) -> Result<Settings, AllocError> {
-    let key = String::from_str(alloc, "k")?;
-    let group = String::from_str(alloc, "g")?;
-    let consumer = String::from_str(alloc, "c")?;
-    let Ok(mut settings) = Settings::new(key, group, consumer) else {
-        return Err(AllocError);
-    };
-    settings.set_count(page).unwrap_or(());
-    settings.set_every(2);
-    settings.set_min_idle(IDLE);
-    settings.set_make_group(MakeGroup::FromTheFirst);
-    Ok(settings)
+    claim_settings(alloc, "c", page, IDLE)
 }
 
 /// Opens a log over a file. A file in memory fails only if memory is refused.
@@ -655,14 +611,17 @@ fn empty_log(alloc: Global) -> Result<LineLog<TornFile>, AllocError> {
 
 /// A new worker, its empty file and its connection.
 fn drain_of(alloc: Global, server: &mut Server, plan: Plan) -> Result<Drain, AllocError> {
+    let log = empty_log(alloc)?;
+    let link = Link::new(alloc, server, plan.is_resp3)?;
+    let settings = settings_of(alloc, plan.page)?;
     Ok(Drain {
-        worker: Worker::new(alloc, settings_of(alloc, plan.page)?),
+        worker: Worker::new(alloc, settings),
         lines: Lines {
-            log: empty_log(alloc)?,
+            log,
             text: Vec::new(alloc),
         },
         page: plan.page,
-        link: Link::new(alloc, server, plan.is_resp3)?,
+        link,
         restarts: plan.restarts,
         forgets: plan.forgets,
         failing: 0,
@@ -812,7 +771,7 @@ fn drain_turn(
         return Ok(Turn::Killed);
     }
     let turn = drain.link.exchange(alloc, server, now, &question)?;
-    if turn == Turn::Killed {
+    if matches!(turn, Turn::Killed) {
         return Ok(turn);
     }
     hear_entries(alloc, drain)
@@ -981,6 +940,7 @@ fn run_of(alloc: Global, world: &mut World) -> Result<Run, AllocError> {
         return Err(AllocError);
     }
     let bytes = bytes_left(alloc, &mut world.drain)?;
+    let seen = seen_in(alloc, &bytes, world.records)?;
     let lates = world.feed.link.lates;
     Ok(Run {
         cuts: world.cuts,
@@ -990,7 +950,7 @@ fn run_of(alloc: Global, world: &mut World) -> Result<Run, AllocError> {
         late_records: world.feed.link.late_records,
         left: (world.feed.link.faults.bytes, world.drain.link.faults.bytes),
         most_waited: world.drain.most_waited,
-        seen: seen_in(alloc, &bytes, world.records)?,
+        seen,
     })
 }
 
@@ -1136,7 +1096,7 @@ impl Tally {
 const LARGEST: usize = 10_000;
 
 /// The end that has faults.
-#[derive(Clone, Copy, PartialEq, Eq)]
+#[derive(Clone, Copy)]
 enum End {
     Producer,
     Worker,
@@ -1290,13 +1250,6 @@ fn torn_files(alloc: Global, plan: Plan) -> Result<Tally, AllocError> {
 
 /// The number of turns of a schedule before the last fault.
 const MOVES: usize = 24;
-
-/// The next number of a pseudo-random sequence.
-fn next(state: u64) -> u64 {
-    state
-        .wrapping_mul(6_364_136_223_846_793_005)
-        .wrapping_add(1_442_695_040_888_963_407)
-}
 
 /// A number below a limit, from the bits of a state from `bit` on.
 fn drawn(state: u64, bit: u32, limit: u64) -> usize {

@@ -12,13 +12,12 @@
 //! | `bytes` | all bytes that a client sends to a server of its own |
 //! | `worker` and settings | a step of a worker, see `workers` |
 //! | `letters` | `give` and an entry, or the bytes of the reply to the next command |
-//! | `poison 3 5 3 4` | none, see `workers::poison` |
 //! | `connection` and sizes | a step of a connection, see `workers::connection`; once for reads of each size |
 //! | `ends 7` | bytes that arrive; a worker makes 7 rounds, wherever the bytes end |
 //! | `streams 3 8 a b` | a command; then a worker for each stream, 8 turns each |
 //! | `cuts 2`, `crashes 2 60`, `gone 2 30`, `schedules 1000` | none, see `together` |
 //! | `settles 2 3` | none; two workers handle 3 entries |
-//! | `outbox` | a step of a worker with an outbox, or a command to its server, see `outbox` |
+//! | `outbox`, `poison` | a step of a worker, or a command to its server, see `outbox` |
 //! | `producer 100 2 3` | a step of a producer, see `producer` |
 //! | `both-ends` | runs of a producer and a worker over one server, see `both_ends` |
 //!
@@ -31,14 +30,14 @@ mod producer;
 mod together;
 mod workers;
 
-use crate::workers::{connection, letters, poison, streams};
+use crate::workers::{connection, letters, streams};
 use redis_wire::{Decoded, Limits, Reply, WireError, command_words, decode};
 use server_commands::{Client, Protocol, Server, Session, append_reply};
 use std::alloc::{AllocError, Global};
 use std::io;
 use std::io::{Read, Write};
 use std::process::ExitCode;
-use worker::Settings;
+use worker::{MakeGroup, Settings};
 
 /// Memory ran out, or standard input or output failed.
 const FAILED: u8 = 2;
@@ -80,25 +79,22 @@ fn play_titled(alloc: Global, script: &str, out: &mut String) -> Result<(), Allo
 fn play(alloc: Global, script: &str, out: &mut String) -> Result<(), AllocError> {
     let (head, lines) = parted(script, '\n');
     let (name, words) = parted(head, ' ');
-    if name == "server" {
-        return play_commands(alloc, words, lines, out);
+    match name {
+        "server" => play_commands(alloc, words, lines, out),
+        "bytes" => play_bytes(alloc, lines, out),
+        "worker" => workers::play(alloc, words, lines, out),
+        "letters" => letters::play(alloc, lines, out),
+        "connection" => connection::play(alloc, words, lines, out),
+        "ends" => connection::play_ends(alloc, words, lines, out),
+        "streams" => streams::play(alloc, words, lines, out),
+        "outbox" | "poison" => outbox::play(alloc, lines, out),
+        "producer" => producer::play(alloc, words, lines, out),
+        "both-ends" => both_ends::play(alloc, lines, out),
+        "cuts" | "crashes" | "gone" | "schedules" | "settles" => {
+            together::play(alloc, name, words, out)
+        }
+        _ => push_line(out, "no script has this name"),
     }
-    if name == "bytes" {
-        return play_bytes(alloc, lines, out);
-    }
-    let is_played = workers::play(alloc, name, words, lines, out)?
-        || letters::play(alloc, name, words, lines, out)?
-        || poison::play(alloc, name, words, out)?
-        || connection::play(alloc, name, words, lines, out)?
-        || streams::play(alloc, name, words, lines, out)?
-        || together::play(alloc, name, words, lines, out)?
-        || outbox::play(alloc, name, words, lines, out)?
-        || producer::play(alloc, name, words, lines, out)?
-        || both_ends::play(alloc, name, lines, out)?;
-    if is_played {
-        return Ok(());
-    }
-    push_line(out, "no script has this name")
 }
 
 // The texts of scripts and of transcripts.
@@ -120,13 +116,41 @@ fn settings_for(alloc: Global, key: &str, consumer: &str) -> Result<Settings, Al
     );
     match settings {
         Ok(settings) => Ok(settings),
-        Err(_) => Err(AllocError),
+        Err(_error) => Err(AllocError),
     }
+}
+
+/// The settings of a worker of the group `g` that makes the group, from the first entry on.
+fn group_settings(alloc: Global, key: &str, consumer: &str) -> Result<Settings, AllocError> {
+    let mut settings = settings_for(alloc, key, consumer)?;
+    settings.set_make_group(MakeGroup::FromTheFirst);
+    Ok(settings)
+}
+
+/// The same for the stream `k`, with this count, every second read a claim, and this idle time.
+fn claim_settings(
+    alloc: Global,
+    consumer: &str,
+    count: usize,
+    idle: usize,
+) -> Result<Settings, AllocError> {
+    let mut settings = group_settings(alloc, "k", consumer)?;
+    settings.set_count(count).unwrap_or(());
+    settings.set_every(2);
+    settings.set_min_idle(idle);
+    Ok(settings)
 }
 
 /// Parses a word as a number; 0 if it is not one.
 fn number_of(word: &str) -> usize {
     word.parse::<usize>().unwrap_or(0)
+}
+
+/// The next number of a pseudo-random sequence.
+fn next(state: u64) -> u64 {
+    state
+        .wrapping_mul(6_364_136_223_846_793_005)
+        .wrapping_add(1_442_695_040_888_963_407)
 }
 
 /// Appends a line.

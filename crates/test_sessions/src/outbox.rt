@@ -6,6 +6,7 @@
 //! | `send` | the entries in the outbox are sent |
 //! | `commit` | the handler commits |
 //! | `killed` | the worker and its outbox are dropped, and another worker starts |
+//! | `starts 3` | another worker starts, which gives entries up after 3 deliveries, see `poison` |
 //! | another | a command to the server |
 //!
 //! Each line has a connection of its own. With `writes 170` at its end the connection breaks after 170 bytes
@@ -13,65 +14,68 @@
 //!
 //! The work adds the id of each entry to the stream `out`, and counts its commits. An entry with a field
 //! `leave` is left pending.
-ghost use Rattle.std.specs.Prelude.{◌≡◌, IfOk, IsTrue};
-ghost use Rattle.test_sessions.specs.Scripts.{is_outbox_script};
 
+mod poison;
 mod work;
 
 use crate::outbox::work::Tells;
-use crate::{number_of, parted, push_exchange, settings_for, text_of};
+use crate::workers::Doer;
+use crate::{group_settings, number_of, parted, push_exchange, text_of};
 use redis_connection::{Connection, ConnectionError};
 use redis_wire::Limits;
 use server_commands::{Loopback, Server};
 use std::alloc::{AllocError, Global};
 use std::io::{ErrorKind, Read, Write};
 use worker::outbox::{OutboxError, PostError, Posting};
-use worker::{Handler, MakeGroup, NotCommitted, RequestError, RunError, Worker};
+use worker::{Handler, NotCommitted, RequestError, RunError, Worker};
 
-/// Plays a worker with an outbox. Returns `false` if the script is another one.
-pub fn play(
-    alloc: Global,
-    name: &str,
-    _words: &str,
-    lines: &str,
-    out: &mut String,
-) -> Result<bool, AllocError>
-    ensures { IfOk result (λ played. IsTrue played → IsTrue (is_outbox_script name.now)) }
-{
-    match name {
-        "outbox" => {
-            play_lines(alloc, lines, out)?;
-            Ok(true)
-        }
-        _ => Ok(false),
-    }
-}
-
-/// A worker, and its handler.
+/// A worker with an outbox, its handler, and the handler of the workers that give entries up.
 #[derive(Drop)]
 struct Side {
     worker: Worker,
     posting: Posting<Tells>,
+    doer: Doer,
 }
 
 /// A new worker.
 fn begun(alloc: Global) -> Result<Side, AllocError> {
-    let mut settings = settings_for(alloc, "k", "ann")?;
-    settings.set_make_group(MakeGroup::FromTheFirst);
+    let settings = group_settings(alloc, "k", "ann")?;
     Ok(Side {
         worker: Worker::new(alloc, settings),
         posting: Posting::new(alloc, Tells::new()),
+        doer: Doer::new(alloc),
     })
 }
 
 /// Plays the lines over a server of their own.
-fn play_lines(alloc: Global, lines: &str, out: &mut String) -> Result<(), AllocError> {
-    let Ok(loopback) = Loopback::new(alloc, Server::new(alloc)) else {
-        return Err(AllocError);
-    };
+pub fn play(alloc: Global, lines: &str, out: &mut String) -> Result<(), AllocError> {
+    match Loopback::new(alloc, Server::new(alloc)) {
+        Ok(loopback) => play_over(alloc, &loopback, lines, out),
+        Err(_error) => Err(AllocError),
+    }
+}
+
+/// Plays the lines over this server.
+fn play_over(
+    alloc: Global,
+    loopback: &Loopback,
+    lines: &str,
+    out: &mut String,
+) -> Result<(), AllocError> {
     let mut side = begun(alloc)?;
+    play_lines(alloc, loopback, &mut side, lines, out)
+}
+
+/// Plays the lines, and prints the outcome of each.
+fn play_lines(
+    alloc: Global,
+    loopback: &Loopback,
+    side: &mut Side,
+    lines: &str,
+    out: &mut String,
+) -> Result<(), AllocError> {
     for line in lines.lines() {
-        let text = done(alloc, &loopback, &mut side, line)?;
+        let text = done(alloc, loopback, side, line)?;
         push_exchange(out, line, text.as_str())?;
     }
     Ok(())
@@ -120,6 +124,7 @@ fn done_over<R: Read + Drop, W: Write + Drop>(
         "rounds" => turned(alloc, connection, side, number_of(parted(words, ' ').0)),
         "send" => sent(alloc, connection, side),
         "commit" => committed(alloc, side),
+        "starts" => poison::started(alloc, connection, &mut side.doer, number_of(words)),
         "killed" => {
             *side = begun(alloc)?;
             String::from_str(alloc, "another begins")

@@ -9,32 +9,11 @@
 //! | another | bytes of replies, which it reads |
 //!
 //! The result of a line is followed by the stage of the producer, and the count of replies still to come.
-ghost use Rattle.std.specs.Prelude.{◌≡◌, IfOk, IsTrue};
-ghost use Rattle.test_sessions.specs.Scripts.{is_producer_script};
 
 use crate::{bytes_of, number_of, parted, push_exchange, text_of};
 use redis_wire::{Decoded, Limits, Reply, WireError, decode};
 use std::alloc::{AllocError, Global};
 use worker_producer::{FeedError, Producer, Record, RequestError, Settings};
-
-/// Plays a producer. Returns `false` if the script is another one.
-pub fn play(
-    alloc: Global,
-    name: &str,
-    words: &str,
-    lines: &str,
-    out: &mut String,
-) -> Result<bool, AllocError>
-    ensures { IfOk result (λ played. IsTrue played → IsTrue (is_producer_script name.now)) }
-{
-    match name {
-        "producer" => {
-            play_session(alloc, words, lines, out)?;
-            Ok(true)
-        }
-        _ => Ok(false),
-    }
-}
 
 /// A producer and its records.
 #[derive(Drop)]
@@ -44,12 +23,7 @@ struct Feed {
 }
 
 /// Plays the lines of a script, or none if its settings are refused.
-fn play_session(
-    alloc: Global,
-    words: &str,
-    lines: &str,
-    out: &mut String,
-) -> Result<(), AllocError> {
+pub fn play(alloc: Global, words: &str, lines: &str, out: &mut String) -> Result<(), AllocError> {
     let head = format!(in alloc; "producer {words}")?;
     let (base, rest) = parted(words, ' ');
     let (batch, count) = parted(rest, ' ');
@@ -57,11 +31,8 @@ fn play_session(
     match Settings::new(key, base.parse::<u64>().unwrap_or(0), number_of(batch)) {
         Ok(settings) => {
             push_exchange(out, head.as_str(), "")?;
-            let mut feed = Feed {
-                producer: Producer::new(settings),
-                records: records_of(alloc, number_of(count))?,
-            };
-            play_steps(alloc, lines, &mut feed, out)
+            let producer = Producer::new(settings);
+            play_producer(alloc, producer, number_of(count), lines, out)
         }
         Err(error) => {
             let text = format!(in alloc; "{error}")?;
@@ -70,17 +41,35 @@ fn play_session(
     }
 }
 
-/// Returns `count` records, of one field each.
-fn records_of(alloc: Global, count: usize) -> Result<Vec<Record>, AllocError> {
+/// Plays the steps of this producer of `count` records.
+fn play_producer(
+    alloc: Global,
+    producer: Producer,
+    count: usize,
+    lines: &str,
+    out: &mut String,
+) -> Result<(), AllocError> {
+    let records = records_of(alloc, 0, count)?;
+    let mut feed = Feed { producer, records };
+    play_steps(alloc, lines, &mut feed, out)
+}
+
+/// Returns `count` records, each with its number, from `first` on.
+pub fn records_of(alloc: Global, first: usize, count: usize) -> Result<Vec<Record>, AllocError> {
     let mut records = Vec::new(alloc);
-    for number in 0..count {
-        let name = String::from_str(alloc, "n")?.into_bytes();
-        let value = format!(in alloc; "{number}")?.into_bytes();
-        let mut record = Vec::new(alloc);
-        record.push((name, value))?;
-        records.push(record)?;
+    for number in first..first.saturating_add(count) {
+        records.push(record_of(alloc, number)?)?;
     }
     Ok(records)
+}
+
+/// Returns a record of one field, this number.
+fn record_of(alloc: Global, number: usize) -> Result<Record, AllocError> {
+    let mut record = Vec::new(alloc);
+    let name = String::from_str(alloc, "n")?.into_bytes();
+    let value = format!(in alloc; "{number}")?.into_bytes();
+    record.push((name, value))?;
+    Ok(record)
 }
 
 /// Plays the steps of a producer.
@@ -165,9 +154,6 @@ fn push_taken(
     match feed.producer.answered(alloc, reply, count) {
         Ok(()) => text.push_str("Ok "),
         Err(FeedError::Memory) => Err(AllocError),
-        Err(error) => {
-            let error = format!(in alloc; "[{error}] ")?;
-            text.push_str(error.as_str())
-        }
+        Err(error) => write!(text, "[{error}] "),
     }
 }

@@ -12,93 +12,108 @@
 //! | `gone 2 30` | one of two workers is gone for good after 0, 1, 2 .. steps |
 //! | `schedules 1000` | two workers, 16 moves at random, faults among them, for each seed |
 //! | `settles 2 3` | one run, with no fault but refused memory; two workers, 3 entries |
-ghost use Rattle.std.specs.Prelude.{◌≡◌, IfOk, IsTrue};
-ghost use Rattle.test_sessions.specs.Scripts.{is_together_script};
 
-use crate::{answered, number_of, parted, protocol_of, push_line, settings_for, told};
+use crate::{answered, claim_settings, next, number_of, parted, protocol_of, push_line, told};
 use redis_wire::{Decoded, Limits, ReplyStream, WireError, append_answer, command_words, decode};
 use server_commands::{Protocol, Server, Session};
 use std::alloc::{AllocError, Global};
 use std::mem;
 use worker::{
-    AnswerError, EntryRef, Handler, InPlaceError, MakeGroup, NotCommitted, RequestError, Verdict,
-    Worker, WorkerError,
+    AnswerError, EntryRef, Handler, InPlaceError, NotCommitted, RequestError, Verdict, Worker,
+    WorkerError,
 };
 
-/// Plays workers over a server in memory. Returns `false` if the script is another one.
-pub fn play(
-    alloc: Global,
-    name: &str,
-    words: &str,
-    _lines: &str,
-    out: &mut String,
-) -> Result<bool, AllocError>
-    ensures { IfOk result (λ played. IsTrue played → IsTrue (is_together_script name.now)) }
-{
-    match name {
-        "cuts" | "crashes" | "gone" | "schedules" | "settles" => {
-            play_sessions(alloc, name, words, out)?;
-            Ok(true)
-        }
-        _ => Ok(false),
-    }
-}
-
 /// A run whose connection breaks after `bytes` bytes.
-fn cut(alloc: Global, protocol: Protocol, bytes: usize) -> Result<Played, AllocError> {
-    let mut world = world_of(alloc, protocol, &["ann"], 2)?;
+fn cut(
+    alloc: Global,
+    world: &mut World,
+    protocol: Protocol,
+    bytes: usize,
+) -> Result<Played, AllocError> {
+    fill(alloc, world, protocol, &["ann"], 2)?;
     for line in world.lines.iter_mut() {
         line.bytes = bytes;
     }
-    settled(alloc, &mut world)
+    settled(alloc, world)
 }
 
 /// A run whose worker crashes after `steps` steps.
-fn crash(alloc: Global, protocol: Protocol, steps: usize) -> Result<Played, AllocError> {
-    let mut world = world_of(alloc, protocol, &["ann"], 5)?;
+fn crash(
+    alloc: Global,
+    world: &mut World,
+    protocol: Protocol,
+    steps: usize,
+) -> Result<Played, AllocError> {
+    fill(alloc, world, protocol, &["ann"], 5)?;
     for line in world.lines.iter_mut() {
         line.steps = steps;
     }
-    settled(alloc, &mut world)
+    settled(alloc, world)
 }
 
 /// A run whose first worker is gone for good after `steps` steps, and the other one claims its
 /// pending entries.
-fn gone(alloc: Global, protocol: Protocol, steps: usize) -> Result<Played, AllocError> {
-    let mut world = world_of(alloc, protocol, &["ann", "bob"], 6)?;
-    for line in world.lines.iter_mut().take(1) {
-        line.steps = steps;
-        line.is_gone = true;
-    }
+fn gone(
+    alloc: Global,
+    world: &mut World,
+    protocol: Protocol,
+    steps: usize,
+) -> Result<Played, AllocError> {
+    fill(alloc, world, protocol, &["ann", "bob"], 6)?;
+    send_away(world, steps);
     for _ in 0..10u8 {
         if !is_any_down(&world.lines) {
-            round(alloc, &mut world);
+            round(alloc, world);
         }
     }
-    let has_left = left_by_ann(alloc, &mut world)?;
-    let mut played = settled(alloc, &mut world)?;
+    let has_left = left_by_ann(alloc, world)?;
+    let mut played = settled(alloc, world)?;
     played.has_left = has_left;
     Ok(played)
 }
 
 /// A run of two workers with `entries` entries.
-fn settling(alloc: Global, protocol: Protocol, entries: usize) -> Result<Played, AllocError> {
-    let mut world = world_of(alloc, protocol, &["ann", "bob"], entries)?;
-    settled(alloc, &mut world)
+fn settling(
+    alloc: Global,
+    world: &mut World,
+    protocol: Protocol,
+    entries: usize,
+) -> Result<Played, AllocError> {
+    fill(alloc, world, protocol, &["ann", "bob"], entries)?;
+    settled(alloc, world)
 }
 
-/// The run with this number.
+/// The run of this name and number.
 fn session(
     alloc: Global,
     name: &str,
     protocol: Protocol,
     number: usize,
 ) -> Result<Played, AllocError> {
+    let mut world = World {
+        server: Server::new(alloc),
+        now: 0,
+        added: 0,
+        deleted: [false; ENTRIES],
+        lines: Vec::new(alloc),
+    };
+    session_in(alloc, &mut world, name, protocol, number)
+}
+
+/// The run of this name and number in this world, which is empty.
+fn session_in(
+    alloc: Global,
+    world: &mut World,
+    name: &str,
+    protocol: Protocol,
+    number: usize,
+) -> Result<Played, AllocError> {
     match name {
-        "cuts" => cut(alloc, protocol, number),
-        "crashes" => crash(alloc, protocol, number),
-        "gone" => gone(alloc, protocol, number),
-        _ => played_moves(alloc, number),
+        "cuts" => cut(alloc, world, protocol, number),
+        "crashes" => crash(alloc, world, protocol, number),
+        "gone" => gone(alloc, world, protocol, number),
+        "settles" => settling(alloc, world, protocol, number),
+        _ => played_moves(alloc, world, number),
     }
 }
 
@@ -110,7 +125,7 @@ fn count_of(
     word: &str,
 ) -> Result<usize, AllocError> {
     if name == "cuts" {
-        let whole = cut(alloc, protocol, usize::MAX)?;
+        let whole = session(alloc, name, protocol, usize::MAX)?;
         let is_whole = whole.is_settled && whole.breaks == 0;
         return Ok(if is_whole { whole.bytes } else { 0 });
     }
@@ -118,25 +133,33 @@ fn count_of(
 }
 
 /// Plays runs, and prints their outcome.
-fn play_sessions(
-    alloc: Global,
-    name: &str,
-    words: &str,
-    out: &mut String,
-) -> Result<(), AllocError> {
+pub fn play(alloc: Global, name: &str, words: &str, out: &mut String) -> Result<(), AllocError> {
     let (number, word) = parted(words, ' ');
     let protocol = protocol_of(number);
     if name == "settles" {
-        let played = settling(alloc, protocol, number_of(word))?;
+        let played = session(alloc, name, protocol, number_of(word))?;
         return push_line(out, settled_text(played.is_settled));
     }
     let word = if name == "schedules" { number } else { word };
+    let count = count_of(alloc, name, protocol, word)?;
     let mut tally = Tally::new(alloc);
-    for number in 0..count_of(alloc, name, protocol, word)? {
-        let played = session(alloc, name, protocol, number)?;
-        tally.add(alloc, number, played)?;
-    }
+    add_sessions(alloc, name, protocol, count, &mut tally)?;
     push_line(out, tally.text(alloc)?.as_str())
+}
+
+/// Adds the runs of this name with the numbers below `count`.
+fn add_sessions(
+    alloc: Global,
+    name: &str,
+    protocol: Protocol,
+    count: usize,
+    tally: &mut Tally,
+) -> Result<(), AllocError> {
+    for number in 0..count {
+        let played = session(alloc, name, protocol, number)?;
+        tally.add(number, played)?;
+    }
+    Ok(())
 }
 
 /// Whether a run settled, as text.
@@ -190,7 +213,7 @@ impl Tally {
     }
 
     /// Adds a run.
-    fn add(&mut self, alloc: Global, number: usize, played: Played) -> Result<(), AllocError> {
+    fn add(&mut self, number: usize, played: Played) -> Result<(), AllocError> {
         self.sessions = self.sessions.saturating_add(1);
         self.breaks = self.breaks.saturating_add(played.breaks);
         self.broken_once = self
@@ -199,8 +222,7 @@ impl Tally {
         self.left = self.left.saturating_add(usize::from(played.has_left));
         self.settled = self.settled.saturating_add(usize::from(played.is_settled));
         if !played.is_settled {
-            self.unsettled
-                .push_str(format!(in alloc; "; {number} did not settle")?.as_str())?;
+            write!(self.unsettled, "; {number} did not settle")?;
         }
         Ok(())
     }
@@ -236,27 +258,21 @@ struct World {
     lines: Vec<Line>,
 }
 
-/// A server with this number of entries and with workers of these names.
-fn world_of(
+/// Adds workers of these names, and this number of entries.
+fn fill(
     alloc: Global,
+    world: &mut World,
     protocol: Protocol,
     consumers: &[&'static str],
     entries: usize,
-) -> Result<World, AllocError> {
-    let mut world = World {
-        server: Server::new(alloc),
-        now: 0,
-        added: 0,
-        deleted: [false; ENTRIES],
-        lines: Vec::new(alloc),
-    };
+) -> Result<(), AllocError> {
     for consumer in consumers {
         world.lines.push(line_of(alloc, consumer, protocol)?)?;
     }
     for _ in 0..entries {
-        add(alloc, &mut world)?;
+        add(alloc, world)?;
     }
-    Ok(world)
+    Ok(())
 }
 
 /// The reply of the server to a command that no worker sends.
@@ -459,16 +475,12 @@ fn is_committed(lines: &[Line], number: usize) -> bool {
 
 /// A new worker.
 fn worker_of(alloc: Global, consumer: &str) -> Result<Worker, AllocError> {
-    let mut settings = settings_for(alloc, "k", consumer)?;
-    settings.set_count(2).unwrap_or(());
-    settings.set_every(2);
-    settings.set_min_idle(IDLE);
-    settings.set_make_group(MakeGroup::FromTheFirst);
-    Ok(Worker::new(alloc, settings))
+    Ok(Worker::new(alloc, claim_settings(alloc, consumer, 2, IDLE)?))
 }
 
 /// A worker of this name, and its connection.
 fn line_of(alloc: Global, consumer: &'static str, protocol: Protocol) -> Result<Line, AllocError> {
+    let worker = worker_of(alloc, consumer)?;
     Ok(Line {
         consumer,
         book: Book {
@@ -478,7 +490,7 @@ fn line_of(alloc: Global, consumer: &'static str, protocol: Protocol) -> Result<
             says: Verdict::Done,
             refuses: false,
         },
-        worker: worker_of(alloc, consumer)?,
+        worker,
         session: Session::new(alloc, protocol),
         commands: ReplyStream::new(alloc, Limits::default()),
         answers: ReplyStream::new(alloc, Limits::default()),
@@ -644,13 +656,6 @@ fn hears_in_place(alloc: Global, line: &mut Line) -> bool {
 
 const MOVES: usize = 16;
 
-/// The next number of a pseudo-random sequence.
-fn next(state: u64) -> u64 {
-    state
-        .wrapping_mul(6_364_136_223_846_793_005)
-        .wrapping_add(1_442_695_040_888_963_407)
-}
-
 /// Plants a fault that the worker meets in its next turns.
 fn plant(line: &mut Line, kind: u64, size: usize) {
     match kind {
@@ -663,11 +668,11 @@ fn plant(line: &mut Line, kind: u64, size: usize) {
     }
 }
 
-/// The first worker is gone for good after three steps.
-fn send_away(world: &mut World) {
+/// The first worker is gone for good after this number of steps.
+fn send_away(world: &mut World, steps: usize) {
     for line in world.lines.iter_mut().take(1) {
         line.is_gone = true;
-        line.steps = 3;
+        line.steps = steps;
     }
 }
 
@@ -689,7 +694,7 @@ fn make_move(alloc: Global, world: &mut World, state: u64) -> Result<(), AllocEr
         0..4 if world.added < ENTRIES => add(alloc, world),
         4 => delete(alloc, world, size % ENTRIES),
         5 => {
-            send_away(world);
+            send_away(world, 3);
             Ok(())
         }
         _ => {
@@ -701,18 +706,18 @@ fn make_move(alloc: Global, world: &mut World, state: u64) -> Result<(), AllocEr
 }
 
 /// A run with moves in an order that the seed selects: RESP2 for an even one, RESP3 else.
-fn played_moves(alloc: Global, seed: usize) -> Result<Played, AllocError> {
+fn played_moves(alloc: Global, world: &mut World, seed: usize) -> Result<Played, AllocError> {
     let protocol = if seed % 2 == 0 {
         Protocol::Resp2
     } else {
         Protocol::Resp3
     };
-    let mut world = world_of(alloc, protocol, &["ann", "bob"], 0)?;
+    fill(alloc, world, protocol, &["ann", "bob"], 0)?;
     let mut state = next(seed as u64);
     for _ in 0..MOVES {
         state = next(state);
-        make_move(alloc, &mut world, state)?;
+        make_move(alloc, world, state)?;
     }
-    round(alloc, &mut world);
-    settled(alloc, &mut world)
+    round(alloc, world);
+    settled(alloc, world)
 }

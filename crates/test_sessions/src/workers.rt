@@ -15,12 +15,9 @@
 //!
 //! All is done twice: by a worker that reads replies by value, and by one that reads them in
 //! place. If the results differ, both are printed.
-ghost use Rattle.std.specs.Prelude.{◌≡◌, IfOk, IsTrue};
-ghost use Rattle.test_sessions.specs.Scripts.{is_worker_script};
 
 pub mod connection;
 pub mod letters;
-pub mod poison;
 pub mod streams;
 
 use crate::{
@@ -33,25 +30,6 @@ use worker::{
     RequestError, Settings, Verdict, Worker, WorkerError,
 };
 
-/// Plays a worker. Returns `false` if the script is another one.
-pub fn play(
-    alloc: Global,
-    name: &str,
-    words: &str,
-    lines: &str,
-    out: &mut String,
-) -> Result<bool, AllocError>
-    ensures { IfOk result (λ played. IsTrue played → IsTrue (is_worker_script name.now)) }
-{
-    match name {
-        "worker" => {
-            play_session(alloc, words, lines, out)?;
-            Ok(true)
-        }
-        _ => Ok(false),
-    }
-}
-
 /// The limits of the replies.
 const LIMITS: Limits = Limits {
     depth: 8,
@@ -61,28 +39,22 @@ const LIMITS: Limits = Limits {
     bytes: 1000,
 };
 
-/// How a worker takes replies.
-#[derive(Clone, Copy, PartialEq, Eq)]
-enum Way {
-    ByValue,
-    InPlace,
-}
-
-/// A worker, its handler, and how it takes replies.
+/// A worker, its handler, and whether it takes replies in place.
 #[derive(Drop)]
 struct Side {
     worker: Worker,
     doer: Doer,
-    way: Way,
+    in_place: bool,
 }
 
 impl Side {
     /// A new worker.
-    fn new(alloc: Global, words: &str, way: Way) -> Result<Side, AllocError> {
+    fn new(alloc: Global, words: &str, in_place: bool) -> Result<Side, AllocError> {
+        let settings = settings_of(alloc, words)?;
         Ok(Side {
-            worker: Worker::new(alloc, settings_of(alloc, words)?),
+            worker: Worker::new(alloc, settings),
             doer: Doer::new(alloc),
-            way,
+            in_place,
         })
     }
 }
@@ -134,10 +106,10 @@ fn taken(
     alloc: Global,
     worker: &mut Worker,
     doer: &mut Doer,
-    way: Way,
+    in_place: bool,
     bytes: &[u8],
 ) -> Result<Progress, InPlaceError> {
-    if way == Way::InPlace {
+    if in_place {
         return worker.answered_in_place(alloc, bytes, LIMITS, doer);
     }
     match decode(alloc, bytes, LIMITS) {
@@ -176,19 +148,25 @@ fn told(
     alloc: Global,
     worker: &mut Worker,
     doer: &mut Doer,
-    way: Way,
+    in_place: bool,
     bytes: &[u8],
 ) -> Result<String, AllocError> {
-    let result = taken(alloc, worker, doer, way, bytes);
+    let result = taken(alloc, worker, doer, in_place, bytes);
     let mut text = progress_text(alloc, &result)?;
     text.push_str(doer.standing(alloc)?.as_str())?;
-    text.push_str(format!(in alloc; "; asked {:?}", worker.asked())?.as_str())?;
+    write!(text, "; asked {:?}", worker.asked())?;
     Ok(text)
 }
 
 /// Has the worker of a side read bytes.
 fn told_side(alloc: Global, side: &mut Side, bytes: &[u8]) -> Result<String, AllocError> {
-    told(alloc, &mut side.worker, &mut side.doer, side.way, bytes)
+    told(
+        alloc,
+        &mut side.worker,
+        &mut side.doer,
+        side.in_place,
+        bytes,
+    )
 }
 
 /// Has it read the bytes of a text.
@@ -201,11 +179,22 @@ fn told_text(alloc: Global, side: &mut Side, text: &str) -> Result<String, Alloc
 fn told_fronts(alloc: Global, side: &mut Side, text: &str) -> Result<String, AllocError> {
     let bytes = bytes_of(alloc, text)?;
     let mut spans = Spans::new(alloc);
+    tell_fronts(alloc, side, &bytes, &mut spans)?;
+    spans.finished()
+}
+
+/// Has a worker read each proper prefix of bytes, and adds the results.
+fn tell_fronts(
+    alloc: Global,
+    side: &mut Side,
+    bytes: &[u8],
+    spans: &mut Spans,
+) -> Result<(), AllocError> {
     for end in 0..bytes.len() {
         let text = told_side(alloc, side, &bytes[..end])?;
-        spans.add(alloc, text)?;
+        spans.add(text)?;
     }
-    spans.finished(alloc)
+    Ok(())
 }
 
 /// The texts of the numbers from 0 on; equal texts in a row are printed once, with their first number.
@@ -227,10 +216,9 @@ impl Spans {
     }
 
     /// Adds the next number, and its text.
-    fn add(&mut self, alloc: Global, text: String) -> Result<(), AllocError> {
+    fn add(&mut self, text: String) -> Result<(), AllocError> {
         if self.last.as_str() != text.as_str() {
-            let line = format!(in alloc; "{}: {}\n", self.count, text.as_str())?;
-            self.text.push_str(line.as_str())?;
+            write!(self.text, "{}: {}\n", self.count, text.as_str())?;
             self.last = text;
         }
         self.count = self.count.saturating_add(1);
@@ -238,9 +226,9 @@ impl Spans {
     }
 
     /// The texts, and the count of numbers.
-    fn finished(self, alloc: Global) -> Result<String, AllocError> {
+    fn finished(self) -> Result<String, AllocError> {
         let mut text = self.text;
-        text.push_str(format!(in alloc; "{} in all", self.count)?.as_str())?;
+        write!(text, "{} in all", self.count)?;
         Ok(text)
     }
 }
@@ -316,36 +304,50 @@ fn is_reply(line: &str) -> bool {
 }
 
 /// Plays the lines of a script by value and in place.
-fn play_session(
+pub fn play(alloc: Global, words: &str, lines: &str, out: &mut String) -> Result<(), AllocError> {
+    let by_value = Side::new(alloc, words, false)?;
+    let in_place = Side::new(alloc, words, true)?;
+    let mut both = Both { by_value, in_place };
+    play_lines(alloc, &mut both, lines, out)
+}
+
+/// Has both workers do what the lines ask for.
+fn play_lines(
     alloc: Global,
-    words: &str,
+    both: &mut Both,
     lines: &str,
     out: &mut String,
 ) -> Result<(), AllocError> {
-    let mut both = Both {
-        by_value: Side::new(alloc, words, Way::ByValue)?,
-        in_place: Side::new(alloc, words, Way::InPlace)?,
-    };
     for line in lines.lines() {
-        if is_reply(line) {
-            both_done(alloc, &mut both, "ask", out)?;
-            let told = format!(in alloc; "tell {line}")?;
-            both_done(alloc, &mut both, told.as_str(), out)?;
-        } else {
-            both_done(alloc, &mut both, line, out)?;
-        }
+        play_line(alloc, both, line, out)?;
     }
     Ok(())
+}
+
+/// Has both workers do what a line asks for; before bytes of a reply they make their next request.
+fn play_line(
+    alloc: Global,
+    both: &mut Both,
+    line: &str,
+    out: &mut String,
+) -> Result<(), AllocError> {
+    if !is_reply(line) {
+        return both_done(alloc, both, line, out);
+    }
+    both_done(alloc, both, "ask", out)?;
+    let told = format!(in alloc; "tell {line}")?;
+    both_done(alloc, both, told.as_str(), out)
 }
 
 // A handler whose verdicts are those of the script.
 
 /// Keeps each entry that is done as `Gathered` does, and records the entries that it was given.
 #[derive(Drop)]
-struct Doer {
+pub struct Doer {
     /// The entries that are done, and those of them that are committed.
-    kept: Gathered,
-    /// The verdicts on the next entries, the last one first; `Done` on those after them.
+    pub kept: Gathered,
+    /// The verdicts on the next entries, the last one first. After these it is `Stop` on an entry with a field
+    /// `poison`, and `Done` on another.
     says: Vec<Verdict>,
     /// Whether commits fail.
     refuses: bool,
@@ -359,7 +361,7 @@ struct Doer {
 
 impl Doer {
     /// A handler that does every entry.
-    fn new(alloc: Global) -> Doer {
+    pub fn new(alloc: Global) -> Doer {
         Doer {
             kept: Gathered::new(alloc),
             says: Vec::new(alloc),
@@ -388,7 +390,7 @@ impl Doer {
     }
 
     /// The entries that it was given since the last call, and the counts of those that it kept.
-    fn standing(&mut self, alloc: Global) -> Result<String, AllocError> {
+    pub fn standing(&mut self, alloc: Global) -> Result<String, AllocError> {
         self.check()?;
         let text = format!(in alloc;
             "{}; loose {}, committed {} in {}",
@@ -404,7 +406,11 @@ impl Doer {
     /// Records an entry, and keeps it if it is done.
     fn note(&mut self, alloc: Global, entry: &EntryRef<'_>) -> Result<Verdict, AllocError> {
         push_entry(&mut self.seen, entry)?;
-        let verdict = self.says.pop().unwrap_or(Verdict::Done);
+        let verdict = match self.says.pop() {
+            Some(verdict) => verdict,
+            None if entry.get(b"poison").is_some() => Verdict::Stop,
+            None => Verdict::Done,
+        };
         self.seen.push_str(name_of(verdict))?;
         if verdict == Verdict::Done && self.kept.handle(alloc, entry) != Verdict::Done {
             return Err(AllocError);

@@ -15,10 +15,8 @@
 //! | `show 5`, `give 5` | 5 bytes in place are printed, are removed |
 //! | `run 7` | the worker makes 7 rounds |
 //! | `pipeline` | it makes a round, or two with one write |
-ghost use Rattle.std.specs.Prelude.{◌≡◌, IfOk, IsTrue};
-ghost use Rattle.test_sessions.specs.Scripts.{is_connection_script};
 
-use crate::workers::{LIMITS, Side, Spans, Way, done, error_text};
+use crate::workers::{LIMITS, Side, Spans, asked, done, error_text};
 use crate::{bytes_of, commands_text, number_of, parted, push_exchange, push_line, text_of};
 use redis_connection::{AskError, Connection, ConnectionError};
 use redis_resp::FromRedisValue;
@@ -29,29 +27,6 @@ use std::io;
 use std::io::{ErrorKind, Read, Write};
 use worker::{Asked, Pipelined, Progress, RequestError, RunError};
 
-/// Plays a connection. Returns `false` if the script is another one.
-pub fn play(
-    alloc: Global,
-    name: &str,
-    words: &str,
-    lines: &str,
-    out: &mut String,
-) -> Result<bool, AllocError>
-    ensures { IfOk result (λ played. IsTrue played → IsTrue (is_connection_script name.now)) }
-{
-    match name {
-        "connection" => {
-            play_sizes(alloc, words, lines, out)?;
-            Ok(true)
-        }
-        "ends" => {
-            play_ends(alloc, words, lines, out)?;
-            Ok(true)
-        }
-        _ => Ok(false),
-    }
-}
-
 /// The effect of a call of a reader or writer.
 #[derive(Clone, Copy)]
 enum Turn {
@@ -60,16 +35,30 @@ enum Turn {
     Fails(ErrorKind),
 }
 
-/// The effects of the calls of a reader or writer, one after the other.
+/// A reader that returns bytes in turns, one a call, or a writer that accepts them so.
 #[derive(Drop)]
-struct Turns {
+struct End {
+    /// The bytes that arrive, or those that were written.
+    bytes: Vec<u8>,
+    /// How many of them were read.
+    at: usize,
     /// The effect of each call, the last one first.
     turns: Vec<Turn>,
     /// The most bytes that a call without an effect of its own moves.
     most: usize,
 }
 
-impl Turns {
+impl End {
+    /// An end of no bytes, whose calls move at most `most` bytes.
+    fn new(alloc: Global, most: usize) -> End {
+        End {
+            bytes: Vec::new(alloc),
+            at: 0,
+            turns: Vec::new(alloc),
+            most,
+        }
+    }
+
     /// The most bytes that the next call moves.
     fn next(&mut self) -> io::Result<usize> {
         match self.turns.pop() {
@@ -87,6 +76,12 @@ impl Turns {
         }
         Ok(())
     }
+
+    /// Adds these bytes to those that arrive.
+    fn come(&mut self, alloc: Global, text: &str) -> Result<(), AllocError> {
+        let mut bytes = bytes_of(alloc, text)?;
+        self.bytes.append(&mut bytes)
+    }
 }
 
 /// The effect of this name.
@@ -99,25 +94,9 @@ fn turn_of(word: &str) -> Turn {
     }
 }
 
-/// A reader that returns bytes in turns, one a call.
-#[derive(Drop)]
-struct Source {
-    bytes: Vec<u8>,
-    at: usize,
-    turns: Turns,
-}
-
-impl Source {
-    /// Adds these bytes to those that arrive.
-    fn come(&mut self, alloc: Global, text: &str) -> Result<(), AllocError> {
-        let mut bytes = bytes_of(alloc, text)?;
-        self.bytes.append(&mut bytes)
-    }
-}
-
-impl Read for Source {
+impl Read for End {
     fn read(&mut self, buf: &mut [u8]) -> io::Result<usize> {
-        let most = self.turns.next()?;
+        let most = self.next()?;
         let mut len = 0usize;
         let from = self.at.min(self.bytes.len());
         for (place, byte) in buf.iter_mut().take(most).zip(self.bytes[from..].iter()) {
@@ -129,16 +108,9 @@ impl Read for Source {
     }
 }
 
-/// A writer that accepts bytes in turns, one a call.
-#[derive(Drop)]
-struct Sink {
-    bytes: Vec<u8>,
-    turns: Turns,
-}
-
-impl Write for Sink {
+impl Write for End {
     fn write(&mut self, buf: &[u8]) -> io::Result<usize> {
-        let len = self.turns.next()?.min(buf.len());
+        let len = self.next()?.min(buf.len());
         self.bytes.extend_from_slice(&buf[..len])?;
         Ok(len)
     }
@@ -148,44 +120,27 @@ impl Write for Sink {
     }
 }
 
-/// A reader and a writer.
-#[derive(Drop)]
-struct Ends {
-    source: Source,
-    sink: Sink,
+/// Applies a line on the reader or the writer.
+fn set_up(alloc: Global, line: &str, reader: &mut End, writer: &mut End) -> Result<(), AllocError> {
+    match parted(line, ' ') {
+        ("comes", rest) => reader.come(alloc, rest),
+        ("reads", rest) => reader.say(rest),
+        ("writes", rest) => writer.say(rest),
+        _ => Ok(()),
+    }
 }
 
-impl Ends {
-    /// A reader of no bytes, with reads of at most `most` bytes, and a writer that accepts all.
-    fn new(alloc: Global, most: usize) -> Ends {
-        Ends {
-            source: Source {
-                bytes: Vec::new(alloc),
-                at: 0,
-                turns: Turns {
-                    turns: Vec::new(alloc),
-                    most,
-                },
-            },
-            sink: Sink {
-                bytes: Vec::new(alloc),
-                turns: Turns {
-                    turns: Vec::new(alloc),
-                    most: usize::MAX,
-                },
-            },
-        }
+/// Applies the lines on the reader and the writer.
+fn set_up_all(
+    alloc: Global,
+    lines: &str,
+    reader: &mut End,
+    writer: &mut End,
+) -> Result<(), AllocError> {
+    for line in lines.lines() {
+        set_up(alloc, line, reader, writer)?;
     }
-
-    /// Applies a line on the reader or the writer.
-    fn say(&mut self, alloc: Global, line: &str) -> Result<(), AllocError> {
-        match parted(line, ' ') {
-            ("comes", rest) => self.source.come(alloc, rest),
-            ("reads", rest) => self.source.turns.say(rest),
-            ("writes", rest) => self.sink.turns.say(rest),
-            _ => Ok(()),
-        }
-    }
+    Ok(())
 }
 
 /// The name and the text of an error of a connection.
@@ -331,11 +286,6 @@ fn made_text(alloc: Global, made: Pipelined) -> Result<String, AllocError> {
     }
 }
 
-/// Parses a word as a number of rounds.
-fn rounds_of(word: &str) -> u64 {
-    word.parse::<u64>().unwrap_or(0)
-}
-
 /// The subject of a line.
 #[derive(Clone, Copy)]
 enum Subject {
@@ -404,49 +354,62 @@ fn do_line<R: Read + Drop, W: Write + Drop>(
         Subject::Ends => Ok(String::new(alloc)),
         Subject::Question => ask(alloc, link, verb, rest),
         Subject::Reply => take(alloc, link, verb, number_of(rest)),
-        Subject::Rounds if verb == "run" => ran(alloc, link, side, rounds_of(rest)),
+        Subject::Rounds if verb == "run" => ran(alloc, link, side, number_of(rest) as u64),
         Subject::Rounds => pipelined(alloc, link, side),
         Subject::Worker => done(alloc, side, verb, rest),
     }
 }
 
-/// The results of the lines, and the commands that were sent, with reads of at most `most` bytes.
-fn transcript_of(alloc: Global, lines: &str, most: usize) -> Result<String, AllocError> {
-    let mut ends = Ends::new(alloc, most);
-    for line in lines.lines() {
-        ends.say(alloc, line)?;
-    }
-    let Ends { source, mut sink } = ends;
-    let mut out = String::new(alloc);
-    let mut link = Connection::new(alloc, source, &mut sink, LIMITS)?;
-    do_lines(alloc, &mut link, lines, &mut out)?;
-    drop(link);
+/// Appends the results of the lines, and the commands that were sent, with reads of at most `most` bytes.
+fn play_over(alloc: Global, lines: &str, most: usize, out: &mut String) -> Result<(), AllocError> {
+    let mut reader = End::new(alloc, most);
+    let mut writer = End::new(alloc, usize::MAX);
+    set_up_all(alloc, lines, &mut reader, &mut writer)?;
+    play_between(alloc, reader, &mut writer, lines, out)?;
+    push_sent(alloc, &writer.bytes, out)
+}
+
+/// Appends the commands that were sent.
+fn push_sent(alloc: Global, bytes: &[u8], out: &mut String) -> Result<(), AllocError> {
     out.push_str("sent: ")?;
-    push_line(&mut out, commands_text(alloc, &sink.bytes)?.as_str())?;
-    Ok(out)
+    push_line(out, commands_text(alloc, bytes)?.as_str())
+}
+
+/// Does what the lines ask for, over a connection of these ends.
+fn play_between<R: Read + Drop, W: Write + Drop>(
+    alloc: Global,
+    reader: R,
+    writer: W,
+    lines: &str,
+    out: &mut String,
+) -> Result<(), AllocError> {
+    let mut side = Side::new(alloc, "", true)?;
+    let mut link = Connection::new(alloc, reader, writer, LIMITS)?;
+    do_lines(alloc, &mut link, &mut side, lines, out)
 }
 
 /// Does what the lines ask for.
 fn do_lines<R: Read + Drop, W: Write + Drop>(
     alloc: Global,
     link: &mut Connection<R, W>,
+    side: &mut Side,
     lines: &str,
     out: &mut String,
 ) -> Result<(), AllocError> {
-    let mut side = Side::new(alloc, "", Way::InPlace)?;
     for line in lines.lines() {
-        let text = do_line(alloc, link, &mut side, line)?;
+        let text = do_line(alloc, link, side, line)?;
         push_exchange(out, line, text.as_str())?;
     }
     Ok(())
 }
 
 /// Plays a connection, once for each size.
-fn play_sizes(alloc: Global, words: &str, lines: &str, out: &mut String) -> Result<(), AllocError> {
+pub fn play(alloc: Global, words: &str, lines: &str, out: &mut String) -> Result<(), AllocError> {
     let mut last = String::new(alloc);
     for word in words.split(' ') {
         let most = word.parse::<usize>().unwrap_or(usize::MAX);
-        let text = transcript_of(alloc, lines, most)?;
+        let mut text = String::new(alloc);
+        play_over(alloc, lines, most, &mut text)?;
         if text.as_str() == last.as_str() {
             out.push_str("the same with reads of ")?;
             push_line(out, word)?;
@@ -458,33 +421,35 @@ fn play_sizes(alloc: Global, words: &str, lines: &str, out: &mut String) -> Resu
     Ok(())
 }
 
-/// The result of a run over bytes, and the commands that were sent.
-#[derive(Drop)]
-struct Outcome {
-    text: String,
-    sent: Vec<u8>,
+/// The outcome of `rounds` rounds over these bytes. The commands that were sent are appended to `sent`.
+fn ended(
+    alloc: Global,
+    bytes: &[u8],
+    rounds: u64,
+    sent: &mut Vec<u8>,
+) -> Result<String, AllocError> {
+    let mut side = Side::new(alloc, "", true)?;
+    let mut text = ran_between(alloc, bytes, sent, &mut side, rounds)?;
+    push_next(alloc, &mut side, &mut text)?;
+    Ok(text)
 }
 
-/// The outcome of `rounds` rounds over these bytes.
-fn ended(alloc: Global, bytes: &[u8], rounds: u64) -> Result<Outcome, AllocError> {
-    let mut sent = Vec::new(alloc);
-    let mut side = Side::new(alloc, "", Way::InPlace)?;
-    let mut link = Connection::new(alloc, bytes, &mut sent, LIMITS)?;
-    let mut text = ran(alloc, &mut link, &mut side, rounds)?;
-    drop(link);
+/// The worker makes this number of rounds over a connection of these ends.
+fn ran_between<R: Read + Drop, W: Write + Drop>(
+    alloc: Global,
+    reader: R,
+    writer: W,
+    side: &mut Side,
+    rounds: u64,
+) -> Result<String, AllocError> {
+    let mut link = Connection::new(alloc, reader, writer, LIMITS)?;
+    ran(alloc, &mut link, side, rounds)
+}
+
+/// Appends the next request of a worker.
+fn push_next(alloc: Global, side: &mut Side, text: &mut String) -> Result<(), AllocError> {
     text.push_str("; next: ")?;
-    text.push_str(next_text(alloc, &mut side)?.as_str())?;
-    Ok(Outcome { text, sent })
-}
-
-/// The next request of a worker.
-fn next_text(alloc: Global, side: &mut Side) -> Result<String, AllocError> {
-    let mut bytes = Vec::new(alloc);
-    match side.worker.request(alloc, &mut bytes, &mut side.doer) {
-        Ok(_) => commands_text(alloc, &bytes),
-        Err(RequestError::Memory) => Err(AllocError),
-        Err(error) => format!(in alloc; "{error}"),
-    }
+    text.push_str(asked(alloc, &mut side.worker, &mut side.doer)?.as_str())
 }
 
 /// The outcome of a run whose bytes end too early, compared with the commands of the whole run.
@@ -494,7 +459,8 @@ fn front_text(
     rounds: u64,
     whole: &[u8],
 ) -> Result<String, AllocError> {
-    let Outcome { mut text, sent } = ended(alloc, bytes, rounds)?;
+    let mut sent = Vec::new(alloc);
+    let mut text = ended(alloc, bytes, rounds, &mut sent)?;
     text.push_str(if whole.starts_with(&sent) {
         "; sent a front: "
     } else {
@@ -504,22 +470,53 @@ fn front_text(
     Ok(text)
 }
 
-/// Plays runs over a connection that ends after each byte of the input.
-fn play_ends(alloc: Global, words: &str, lines: &str, out: &mut String) -> Result<(), AllocError> {
+/// The bytes of all lines.
+fn input_of(alloc: Global, lines: &str) -> Result<Vec<u8>, AllocError> {
     let mut input = Vec::new(alloc);
     for line in lines.lines() {
         input.append(&mut bytes_of(alloc, line)?)?;
     }
-    let rounds = rounds_of(words);
-    let whole = ended(alloc, &input, rounds)?;
-    let commands = commands_text(alloc, &whole.sent)?;
-    push_exchange(out, commands.as_str(), whole.text.as_str())?;
+    Ok(input)
+}
+
+/// Plays runs over a connection that ends after each byte of the input.
+pub fn play_ends(
+    alloc: Global,
+    words: &str,
+    lines: &str,
+    out: &mut String,
+) -> Result<(), AllocError> {
+    let input = input_of(alloc, lines)?;
+    let rounds = number_of(words) as u64;
+    let mut sent = Vec::new(alloc);
+    let text = ended(alloc, &input, rounds, &mut sent)?;
+    push_exchange(out, commands_text(alloc, &sent)?.as_str(), text.as_str())?;
+    push_line(out, fronts_text(alloc, &input, rounds, &sent)?.as_str())
+}
+
+/// The outcomes of runs whose bytes end after each byte of the input.
+fn fronts_text(
+    alloc: Global,
+    input: &[u8],
+    rounds: u64,
+    whole: &[u8],
+) -> Result<String, AllocError> {
     let mut spans = Spans::new(alloc);
+    add_fronts(alloc, input, rounds, whole, &mut spans)?;
+    spans.finished()
+}
+
+/// Adds the outcomes of these runs.
+fn add_fronts(
+    alloc: Global,
+    input: &[u8],
+    rounds: u64,
+    whole: &[u8],
+    spans: &mut Spans,
+) -> Result<(), AllocError> {
     for end in 0..input.len() {
-        spans.add(
-            alloc,
-            front_text(alloc, &input[..end], rounds, &whole.sent)?,
-        )?;
+        let text = front_text(alloc, &input[..end], rounds, whole)?;
+        spans.add(text)?;
     }
-    push_line(out, spans.finished(alloc)?.as_str())
+    Ok(())
 }

@@ -1,32 +1,11 @@
 //! Dead letters. A line is `give` with an id, deliveries and a field, or a reply's bytes, which reply
 //! to the next command of the letters.
-ghost use Rattle.std.specs.Prelude.{◌≡◌, IfOk, IsTrue};
-ghost use Rattle.test_sessions.specs.Scripts.{is_letters_script};
 
 use crate::workers::LIMITS;
 use crate::{bytes_of, commands_text, number_of, parted, push_exchange};
 use redis_wire::{Decoded, WireError, decode};
 use std::alloc::{AllocError, Global};
 use worker::{DeadLetters, LetterError};
-
-/// Plays dead letters. Returns `false` if the script is another one.
-pub fn play(
-    alloc: Global,
-    name: &str,
-    _words: &str,
-    lines: &str,
-    out: &mut String,
-) -> Result<bool, AllocError>
-    ensures { IfOk result (λ played. IsTrue played → IsTrue (is_letters_script name.now)) }
-{
-    match name {
-        "letters" => {
-            play_letters(alloc, lines, out)?;
-            Ok(true)
-        }
-        _ => Ok(false),
-    }
-}
 
 /// Gives an entry up.
 fn gave_up(alloc: Global, letters: &mut DeadLetters, rest: &str) -> Result<String, AllocError> {
@@ -70,24 +49,38 @@ fn told(alloc: Global, letters: &mut DeadLetters, line: &str) -> Result<String, 
 }
 
 /// Plays entries that are given up, and replies.
-fn play_letters(alloc: Global, lines: &str, out: &mut String) -> Result<(), AllocError> {
-    let mut letters = DeadLetters::new(
-        alloc,
-        String::from_str(alloc, "k")?,
-        String::from_str(alloc, "g")?,
-        String::from_str(alloc, "dead")?,
-    );
+pub fn play(alloc: Global, lines: &str, out: &mut String) -> Result<(), AllocError> {
+    let key = String::from_str(alloc, "k")?;
+    let group = String::from_str(alloc, "g")?;
+    let stream = String::from_str(alloc, "dead")?;
+    let mut letters = DeadLetters::new(alloc, key, group, stream);
+    play_lines(alloc, &mut letters, lines, out)
+}
+
+/// Plays the lines.
+fn play_lines(
+    alloc: Global,
+    letters: &mut DeadLetters,
+    lines: &str,
+    out: &mut String,
+) -> Result<(), AllocError> {
     for line in lines.lines() {
-        match parted(line, ' ') {
-            ("give", rest) => {
-                push_exchange(out, line, gave_up(alloc, &mut letters, rest)?.as_str())?;
-            }
-            _ => {
-                let command = asked(alloc, &mut letters)?;
-                let answer = told(alloc, &mut letters, line)?;
-                push_exchange(out, command.as_str(), answer.as_str())?;
-            }
-        }
+        play_line(alloc, letters, line, out)?;
     }
     Ok(())
+}
+
+/// Gives an entry up, or makes the next request and reads its reply.
+fn play_line(
+    alloc: Global,
+    letters: &mut DeadLetters,
+    line: &str,
+    out: &mut String,
+) -> Result<(), AllocError> {
+    if let ("give", rest) = parted(line, ' ') {
+        return push_exchange(out, line, gave_up(alloc, letters, rest)?.as_str());
+    }
+    let command = asked(alloc, letters)?;
+    let answer = told(alloc, letters, line)?;
+    push_exchange(out, command.as_str(), answer.as_str())
 }

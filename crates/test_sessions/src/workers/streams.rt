@@ -1,37 +1,16 @@
 //! One consumer of several streams: a worker for each, over one connection and with one handler.
 //!
 //! The words of the first line are the protocol, the number of turns of each worker, and the streams.
-ghost use Rattle.std.specs.Prelude.{◌≡◌, IfOk, IsTrue};
-ghost use Rattle.test_sessions.specs.Scripts.{is_streams_script};
 
-use crate::workers::{Doer, Way, told};
+use crate::workers::{Doer, told};
 use crate::{
-    answered, commands_text, number_of, parted, protocol_of, push_exchange, push_line,
-    settings_for, tell_all,
+    answered, commands_text, group_settings, number_of, parted, protocol_of, push_exchange,
+    push_line, tell_all,
 };
 use redis_wire::{Decoded, Limits, command_words, decode};
 use server_commands::{Server, Session};
 use std::alloc::{AllocError, Global};
-use worker::{MakeGroup, Worker};
-
-/// Plays workers of several streams. Returns `false` if the script is another one.
-pub fn play(
-    alloc: Global,
-    name: &str,
-    words: &str,
-    lines: &str,
-    out: &mut String,
-) -> Result<bool, AllocError>
-    ensures { IfOk result (λ played. IsTrue played → IsTrue (is_streams_script name.now)) }
-{
-    match name {
-        "streams" => {
-            play_streams(alloc, words, lines, out)?;
-            Ok(true)
-        }
-        _ => Ok(false),
-    }
-}
+use worker::Worker;
 
 /// A server and one connection to it.
 #[derive(Drop)]
@@ -44,9 +23,7 @@ struct Peer {
 fn workers_of(alloc: Global, keys: &str) -> Result<Vec<Worker>, AllocError> {
     let mut workers = Vec::new(alloc);
     for key in keys.split(' ') {
-        let mut settings = settings_for(alloc, key, "ann")?;
-        settings.set_make_group(MakeGroup::FromTheFirst);
-        workers.push(Worker::new(alloc, settings))?;
+        workers.push(Worker::new(alloc, group_settings(alloc, key, "ann")?))?;
     }
     Ok(workers)
 }
@@ -76,7 +53,7 @@ fn turn(
         return Err(AllocError);
     }
     let answer = answer_to(alloc, peer, &question)?;
-    let text = told(alloc, worker, doer, Way::ByValue, &answer)?;
+    let text = told(alloc, worker, doer, false, &answer)?;
     push_exchange(
         out,
         commands_text(alloc, &question)?.as_str(),
@@ -85,36 +62,64 @@ fn turn(
 }
 
 /// Plays workers of streams, and prints the pending entries at the end.
-fn play_streams(
-    alloc: Global,
-    words: &str,
-    lines: &str,
-    out: &mut String,
-) -> Result<(), AllocError> {
+pub fn play(alloc: Global, words: &str, lines: &str, out: &mut String) -> Result<(), AllocError> {
     let (protocol, rest) = parted(words, ' ');
     let (turns, keys) = parted(rest, ' ');
     let mut peer = Peer {
         server: Server::new(alloc),
         session: Session::new(alloc, protocol_of(protocol)),
     };
-    tell_all(alloc, &mut peer.server, &mut peer.session, lines, out)?;
+    tell(alloc, &mut peer, lines, out)?;
+    play_turns(alloc, &mut peer, number_of(turns), keys, out)?;
+    tell_pending(alloc, &mut peer, keys, out)
+}
+
+/// Runs commands on the server, and prints the replies.
+fn tell(alloc: Global, peer: &mut Peer, lines: &str, out: &mut String) -> Result<(), AllocError> {
+    tell_all(alloc, &mut peer.server, &mut peer.session, lines, out)
+}
+
+/// Plays new workers of these streams, each for this number of turns.
+fn play_turns(
+    alloc: Global,
+    peer: &mut Peer,
+    turns: usize,
+    keys: &str,
+    out: &mut String,
+) -> Result<(), AllocError> {
     let mut workers = workers_of(alloc, keys)?;
     let mut doer = Doer::new(alloc);
-    for _ in 0..number_of(turns) {
+    turn_all(alloc, peer, &mut workers, &mut doer, turns, out)?;
+    push_line(out, doer.standing(alloc)?.as_str())
+}
+
+/// Gives each worker this number of turns.
+fn turn_all(
+    alloc: Global,
+    peer: &mut Peer,
+    workers: &mut Vec<Worker>,
+    doer: &mut Doer,
+    turns: usize,
+    out: &mut String,
+) -> Result<(), AllocError> {
+    for _ in 0..turns {
         for worker in workers.iter_mut() {
-            turn(alloc, &mut peer, worker, &mut doer, out)?;
+            turn(alloc, peer, worker, doer, out)?;
         }
     }
-    push_line(out, doer.standing(alloc)?.as_str())?;
+    Ok(())
+}
+
+/// Prints the pending entries of these streams.
+fn tell_pending(
+    alloc: Global,
+    peer: &mut Peer,
+    keys: &str,
+    out: &mut String,
+) -> Result<(), AllocError> {
     for key in keys.split(' ') {
         let line = format!(in alloc; "XPENDING {key} g")?;
-        tell_all(
-            alloc,
-            &mut peer.server,
-            &mut peer.session,
-            line.as_str(),
-            out,
-        )?;
+        tell(alloc, peer, line.as_str(), out)?;
     }
     Ok(())
 }
