@@ -13,7 +13,7 @@ import time as clock
 from concurrent.futures import ThreadPoolExecutor
 from typing import Dict, Iterator, List, NamedTuple, Sequence
 
-from shared import ROOT, TOOL, content, crates_below
+from shared import ROOT, TOOL, Failed, content, crates_below, ran
 from shared import write as write_file
 from unproved import KIT, words_of_sources
 import man_pages
@@ -22,6 +22,8 @@ from jagyerti.cli import completions, make_parser
 # The one that takes longest to build is the first.
 PROGRAMS = ("stream_sqlite", "stream_drain", "stream_run", "stream_top", "stream_fill", "stream_serve")
 LIBRARY, SONAME = "redis_c", "libredis_c.so.0"
+# Prints the name of the toolchain, and the sum of its logic.
+KIT_VERSION = ("rt", "version")
 # Those that take options, and have --help and --version.
 OPTIONED = PROGRAMS[:-1]
 KEPT = f"{ROOT}/build"
@@ -103,28 +105,12 @@ class Build(NamedTuple):
         return f"{'proved' if self.is_proved else 'unproved'}, {commit}{', changed' if self.is_changed else ''}"
 
 
-class NotMade(Exception):
-    """Why there is no installation and no release."""
-
-
-def run(words: Sequence[str], given: str = "") -> str:
-    """Runs a command over a text, and returns what it prints."""
-    try:
-        ran = subprocess.run(words, input=given, stdout=subprocess.PIPE, stderr=subprocess.STDOUT, cwd=ROOT, text=True,
-                             errors="replace", check=False)
-    except OSError as error:
-        raise NotMade(str(error)) from None
-    if ran.returncode:
-        raise NotMade(f"{' '.join(words[:3])}: {ran.stdout[-1500:]}")
-    return ran.stdout
-
-
-def run_shown(words: Sequence[str]) -> None:
+def make(words: Sequence[str]) -> None:
     """Runs a command that takes minutes, and shows its output as it comes."""
-    ran = subprocess.run(words, stdin=subprocess.DEVNULL, stderr=subprocess.PIPE, cwd=ROOT, text=True, errors="replace",
-                         check=False)
-    if ran.returncode:
-        raise NotMade(f"{' '.join(words[:3])}: {ran.stderr[-1500:]}")
+    done = subprocess.run(words, stdin=subprocess.DEVNULL, stderr=subprocess.PIPE, cwd=ROOT, text=True,
+                          errors="replace", check=False)
+    if done.returncode:
+        raise Failed(f"{' '.join(words[:3])}: {done.stderr[-1500:]}")
 
 
 @contextlib.contextmanager
@@ -144,9 +130,9 @@ def describe_build(is_proved: bool) -> Build:
     """Returns what would be built here and now."""
     version = read("VERSION").decode().strip()
     try:
-        commit, time = run(["git", "log", "-1", "--format=%H %ct"]).split()
-        changed = bool(run(["git", "status", "--porcelain"]).strip())
-    except NotMade:
+        commit, time = ran(["git", "log", "-1", "--format=%H %ct"]).split()
+        changed = bool(ran(["git", "status", "--porcelain"]).strip())
+    except (Failed, OSError):
         commit, time, changed = "", "0", False
     return Build(version if is_proved else f"{version}+unproved", is_proved, commit, changed, int(time))
 
@@ -167,10 +153,10 @@ def build_programs(is_proved: bool) -> Dict[str, str]:
             "compiles these, which takes minutes"
         print(f"{TOOL}: {how}: {', '.join(lacking)}", flush=True)
     if lacking and not is_proved:
-        run_shown([f"{ROOT}/tools/build-program", *lacking, KEPT])
+        make([f"{ROOT}/tools/build-program", *lacking, KEPT])
     for name in lacking if is_proved else ():
         with step(f"{name} is proved and built"):
-            run(["bash", "-c", f"cd crates/{name} && rt run -- --help < /dev/null"])
+            ran(["rt", "run", "--", "--help"], f"{ROOT}/crates/{name}")
     return paths
 
 
@@ -181,38 +167,36 @@ def build_library(is_proved: bool) -> Dict[str, bytes]:
     if not is_current(archive, LIBRARY) or not is_current(shared, LIBRARY):
         os.makedirs(into, exist_ok=True)
         compile_library(is_proved)
-        run([f"{KIT}/toolchain/bin/llvm-ar", "-M"],
-            f"create {archive}\naddlib {raw}\naddlib {KIT}/c/liblibc_c.a\nsave\nend\n")
-        run(["strip", "--strip-debug", "--enable-deterministic-archives", archive])
-        with tempfile.NamedTemporaryFile("w", prefix="exported-") as exported:
-            exported.write(EXPORTED)
-            exported.flush()
-            run(["cc", "-shared", "-s", "-o", shared, f"-Wl,-soname,{SONAME}", "-Wl,--whole-archive", archive,
-                 "-Wl,--no-whole-archive", f"-Wl,--version-script={exported.name}", "-Wl,-z,defs", "-Wl,-z,now"])
+        with tempfile.TemporaryDirectory(prefix="library-") as folder:
+            script = f"create {archive}\naddlib {raw}\naddlib {KIT}/c/liblibc_c.a\nsave\nend\n"
+            ran(["bash", "-c", f"{KIT}/toolchain/bin/llvm-ar -M < {write_file(f'{folder}/script', script)}"])
+            ran(["strip", "--strip-debug", "--enable-deterministic-archives", archive])
+            exported = write_file(f"{folder}/exported", EXPORTED)
+            ran(["cc", "-shared", "-s", "-o", shared, f"-Wl,-soname,{SONAME}", "-Wl,--whole-archive", archive,
+                 "-Wl,--no-whole-archive", f"-Wl,--version-script={exported}", "-Wl,-z,defs", "-Wl,-z,now"])
     return {f"lib{LIBRARY}.a": read(archive), SONAME: read(shared)}
 
 
 def compile_library(is_proved: bool) -> None:
-    """Compiles the crate of the library; if it is proved, over the libraries that the gate left, or else over new
-    ones."""
+    """Compiles the crate of the library; if it is proved, over the libraries that the gate left, or over new ones."""
     if not is_proved:
-        run(["nice", "-n", "5", f"{ROOT}/tools/build-c", "--unproved"])  # (the programs take longer)
+        ran(["nice", "-n", "5", f"{ROOT}/tools/build-c", "--unproved"])  # (the programs take longer)
         return
     try:
-        run([f"{ROOT}/tools/build-c"])
-    except NotMade:
-        run(["bash", "-c", f"cd crates/{LIBRARY} && rt lib"])
+        ran([f"{ROOT}/tools/build-c"])
+    except Failed:
+        ran(["rt", "lib"], f"{ROOT}/crates/{LIBRARY}")
 
 
 def stamp(name: str, path: str, build: Build) -> bytes:
     """Returns a program without its symbols, in which the place for the build has this one's text."""
     with tempfile.TemporaryDirectory(prefix="stamp-") as folder:
         stripped = f"{folder}/{name}"
-        run(["strip", "-o", stripped, path])
+        ran(["strip", "-o", stripped, path])
         data = read(stripped)
         places = data.count(MARK)
         if places != (name in OPTIONED) or len(build.text) > ROOM:
-            raise NotMade(f"{name}: {places} places for the text '{build.text}'")
+            raise Failed(f"{name}: {places} places for the text '{build.text}'")
         at = data.find(MARK) + len(MARK)
         return data[:at] + build.text.encode().ljust(ROOM) + data[at + ROOM:] if places else data
 
@@ -225,31 +209,17 @@ def licences_of_kit() -> str:
     for crate in crates:
         for path in sorted(glob.glob(f"{KIT}/rattle/{crate}/LICENSE*")):
             texts.setdefault(read(path).decode("utf-8", "replace").strip(), []).append(crate)
-    head = f"The programs and the library have code of these crates of {kit_version()}: {', '.join(crates)}."
+    head = f"The programs and the library have code of these crates of {ran(KIT_VERSION).strip()}: {', '.join(crates)}."
     parts = [textwrap.fill(head, 79) + "\n\nEach licence is that of the crates that are named above it.\n"]
     return "\n".join(parts
                      + [f"{'=' * 79}\n{', '.join(names)}\n{'=' * 79}\n\n{text}\n" for text, names in texts.items()])
-
-
-def kit_version() -> str:
-    """Returns the name of the toolchain, and the sum of its logic."""
-    return run(["rt", "version"]).strip()
-
-
-def package_files(build: Build) -> Tree:
-    """Returns the Python package, with a module that says what was built."""
-    paths = [path for path in glob.glob(f"{ROOT}/python/jagyerti/**/*", recursive=True)
-             if path.endswith((".py", ".typed"))]
-    tree = {os.path.relpath(path, f"{ROOT}/python/jagyerti"): Entry(read(path)) for path in sorted(paths)}
-    tree["_build.py"] = Entry(f'"""What was built."""\nVERSION = "{build.version}"\nBUILD = "{build.text}"\n'.encode())
-    return tree
 
 
 def make_tree(build: Build) -> Tree:
     """Builds what is missing, and returns all files of an installation."""
     for name, package in (("cc", "gcc"), ("strip", "binutils")):
         if shutil.which(name) is None:
-            raise NotMade(f"{name} is not installed: Debian's package {package} has it")
+            raise Failed(f"{name} is not installed: Debian's package {package} has it")
     with ThreadPoolExecutor(1 if build.is_proved else 2) as pool:
         building = pool.submit(step("the programs are there")(build_programs), build.is_proved)
         library = pool.submit(step("the C library is there")(build_library), build.is_proved).result()
@@ -267,7 +237,11 @@ def tree_of(build: Build, programs: Dict[str, str], library: Dict[str, bytes]) -
     tree[f"lib/lib{LIBRARY}.so"] = Entry(link=SONAME)
     tree["include/redis_streams.h"] = Entry(read(f"crates/{LIBRARY}/redis_streams.h"))
     tree[f"lib/pkgconfig/{LIBRARY}.pc"] = Entry(PKG_CONFIG.format(version=build.version).encode())
-    tree.update({f"{PACKAGE}/{path}": entry for path, entry in package_files(build).items()})
+    for path in sorted(glob.glob(f"{ROOT}/python/jagyerti/**/*", recursive=True)):
+        if path.endswith((".py", ".typed")):
+            tree[f"{PACKAGE}/{os.path.relpath(path, f'{ROOT}/python/jagyerti')}"] = Entry(read(path))
+    about = f'"""What was built."""\nVERSION = "{build.version}"\nBUILD = "{build.text}"\n'
+    tree[f"{PACKAGE}/_build.py"] = Entry(about.encode())
     tree.update({path: Entry(text.encode()) for path, text in shell_files(build, programs)})
     tree[f"{DOC}/LICENSE"] = Entry(read("LICENSE"))
     tree[f"{DOC}/CHANGELOG.md"] = Entry(read("CHANGELOG.md"))
@@ -296,24 +270,22 @@ def shell_files(build: Build, programs: Dict[str, str]) -> Iterator[tuple[str, s
 
 def units(prefix: str) -> Tree:
     """Returns the units of systemd by their paths, for commands below this prefix."""
-    return {f"lib/systemd/system/jagyerti-{name}@.service": Entry(UNIT.format(name=name, about=about, settings=settings,
-                                                                              words=words, more=more,
-                                                                              prefix=prefix).encode()) for name,
-            (about, settings, words, more) in UNITS.items()}
+    texts = {name: UNIT.format(name=name, about=about, settings=settings, words=words, more=more, prefix=prefix)
+             for name, (about, settings, words, more) in UNITS.items()}
+    return {f"lib/systemd/system/jagyerti-{name}@.service": Entry(text.encode()) for name, text in texts.items()}
 
 
 def describe_proofs(build: Build, tree: Tree) -> str:
     """Returns the text of PROVED.txt: what was proved, by what, and the sum of each file."""
-    crates = sorted(crates_below(*PROGRAMS, LIBRARY))
-    proved = "\n".join([f"Proved, and then built: {', '.join(PROGRAMS)}, lib{LIBRARY}; and these crates below them:",
-                        *(f"  {crate}" for crate in crates)])
-    unproved = (
-        "Nothing of it was proved where it was built. It is compiled from the sources alone, with a trap at each\n"
-        "sum that wraps and each index out of range.")
-    sums = (f"{hashlib.sha256(entry.data).hexdigest()}  {path}\n" for path,
-            entry in sorted(tree.items()) if not entry.link)
-    return (f"jagyerti {build.version} ({build.text})\n\ncommit  {build.commit or 'none'}\nkit     {kit_version()}\n\n"
-            f"{proved if build.is_proved else unproved}\n\nThe SHA-256 of each file:\n{''.join(sums)}")
+    crates = "".join(f"\n  {crate}" for crate in sorted(crates_below(*PROGRAMS, LIBRARY)))
+    what = f"Proved, and then built: {', '.join(PROGRAMS)}, lib{LIBRARY}; and these crates below them:{crates}" \
+        if build.is_proved else \
+        ("Nothing of it was proved where it was built. It is compiled from the sources alone, with a trap at each\n"
+         "sum that wraps and each index out of range.")
+    sums = (f"{hashlib.sha256(entry.data).hexdigest()}  {path}\n" for path, entry in sorted(tree.items())
+            if not entry.link)
+    return (f"jagyerti {build.version} ({build.text})\n\ncommit  {build.commit or 'none'}\n"
+            f"kit     {ran(KIT_VERSION).strip()}\n\n{what}\n\nThe SHA-256 of each file:\n{''.join(sums)}")
 
 
 def write(tree: Tree, folder: str) -> None:
