@@ -34,13 +34,11 @@ class Session:
     unasked: Sequence[Any] = ()  # replies that are there too, after the others
     locked: str = ""  # a file that another process has
 
-    def label(self) -> str:
-        """How it is named where it goes otherwise."""
-        return f"{self.name} ({self.words})"
+    protocol = 3  # of the replies
 
-    def replies(self, protocol: int = 3) -> bytes:
+    def replies(self) -> bytes:
         """What the server sends."""
-        return as_sent([*self.talk[1::2], *self.unasked], protocol)
+        return as_sent([*self.talk[1::2], *self.unasked], self.protocol)
 
     def asked(self) -> bytes:
         """What the program has to send."""
@@ -101,7 +99,7 @@ def judge(crate: str, doc: Optional[str], sessions: Callable[[], Iterable[Sessio
     """Plays all sessions with the program of a tool, and then more checks. Prints what goes otherwise. Returns the
     status of the tool."""
     program = program_of(crate, words_of(doc, "PROGRAM?").PROGRAM)
-    played = ((session.label(), session.differs(program)) for session in sessions())
+    played = ((f"{session.name} ({session.words})", session.differs(program)) for session in sessions())
     run = failed = 0
     for name, wrong in itertools.chain(played, more(program)):
         run, failed = run + 1, failed + bool(wrong)
