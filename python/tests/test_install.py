@@ -71,6 +71,6 @@ class StepsTest(unittest.TestCase):
 
     def test_a_program_that_is_not_built(self) -> None:
         ran = self.make("echo it is wrong >&2; exit 1")
-        self.assertIn("NotMade: ", ran.stderr)
+        self.assertIn("Failed: ", ran.stderr)
         self.assertIn("it is wrong", ran.stderr)
         self.assertNotIn("the programs are there", ran.stdout)
