@@ -28,6 +28,8 @@
 //! For each line the number of runs and the faults in them are printed. Then how many files differ from
 //! the records, and how many of these have a line twice, lack one, or have one of no record. If a file
 //! differs in none of these ways, its lines are in another order.
+ghost use Rattle.std.specs.Prelude.{◌≡◌, IfOk};
+ghost use Rattle.test_sessions.specs.Scripts.{is_both_ends_script};
 
 use crate::producer::records_of;
 use crate::{claim_settings, next, number_of, parted, push_line};
@@ -56,8 +58,21 @@ struct Plan {
     guesses: bool,
 }
 
+/// Plays a script of this name. Returns whether it is one of this module.
+pub fn play(alloc: Global, name: &str, lines: &str, out: &mut String) -> Result<bool, AllocError>
+    ensures { IfOk result (λ played. played ≡ is_both_ends_script name.now) }
+{
+    match name {
+        "both-ends" => {
+            play_lines(alloc, lines, out)?;
+            Ok(true)
+        }
+        _ => Ok(false),
+    }
+}
+
 /// Plays each line, and prints it with its outcome.
-pub fn play(alloc: Global, lines: &str, out: &mut String) -> Result<(), AllocError> {
+fn play_lines(alloc: Global, lines: &str, out: &mut String) -> Result<(), AllocError> {
     for line in lines.lines() {
         out.push_str(line)?;
         out.push('\t')?;

@@ -82,19 +82,30 @@ fn play(alloc: Global, script: &str, out: &mut String) -> Result<(), AllocError>
     match name {
         "server" => play_commands(alloc, words, lines, out),
         "bytes" => play_bytes(alloc, lines, out),
-        "worker" => workers::play(alloc, words, lines, out),
-        "letters" => letters::play(alloc, lines, out),
-        "connection" => connection::play(alloc, words, lines, out),
-        "ends" => connection::play_ends(alloc, words, lines, out),
-        "streams" => streams::play(alloc, words, lines, out),
-        "outbox" | "poison" => outbox::play(alloc, lines, out),
-        "producer" => producer::play(alloc, words, lines, out),
-        "both-ends" => both_ends::play(alloc, lines, out),
-        "cuts" | "crashes" | "gone" | "schedules" | "settles" => {
-            together::play(alloc, name, words, out)
-        }
-        _ => push_line(out, "no script has this name"),
+        _ => play_module(alloc, name, words, lines, out),
     }
+}
+
+/// Plays a script by the module that has its name.
+fn play_module(
+    alloc: Global,
+    name: &str,
+    words: &str,
+    lines: &str,
+    out: &mut String,
+) -> Result<(), AllocError> {
+    let is_played = workers::play(alloc, name, words, lines, out)?
+        || letters::play(alloc, name, lines, out)?
+        || connection::play(alloc, name, words, lines, out)?
+        || streams::play(alloc, name, words, lines, out)?
+        || together::play(alloc, name, words, out)?
+        || outbox::play(alloc, name, lines, out)?
+        || producer::play(alloc, name, words, lines, out)?
+        || both_ends::play(alloc, name, lines, out)?;
+    if is_played {
+        return Ok(());
+    }
+    push_line(out, "no script has this name")
 }
 
 // The texts of scripts and of transcripts.

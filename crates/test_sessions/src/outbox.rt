@@ -15,6 +15,9 @@
 //! The work adds the id of each entry to the stream `out`, and counts its commits. An entry with a field
 //! `leave` is left pending.
 
+ghost use Rattle.std.specs.Prelude.{◌≡◌, IfOk};
+ghost use Rattle.test_sessions.specs.Scripts.{is_outbox_script};
+
 mod poison;
 mod work;
 
@@ -47,8 +50,21 @@ fn begun(alloc: Global) -> Result<Side, AllocError> {
     })
 }
 
+/// Plays a script of this name. Returns whether it is one of this module.
+pub fn play(alloc: Global, name: &str, lines: &str, out: &mut String) -> Result<bool, AllocError>
+    ensures { IfOk result (λ played. played ≡ is_outbox_script name.now) }
+{
+    match name {
+        "outbox" | "poison" => {
+            play_alone(alloc, lines, out)?;
+            Ok(true)
+        }
+        _ => Ok(false),
+    }
+}
+
 /// Plays the lines over a server of their own.
-pub fn play(alloc: Global, lines: &str, out: &mut String) -> Result<(), AllocError> {
+fn play_alone(alloc: Global, lines: &str, out: &mut String) -> Result<(), AllocError> {
     match Loopback::new(alloc, Server::new(alloc)) {
         Ok(loopback) => play_over(alloc, &loopback, lines, out),
         Err(_error) => Err(AllocError),

@@ -10,6 +10,9 @@
 //!
 //! The result of a line is followed by the stage of the producer, and the count of replies still to come.
 
+ghost use Rattle.std.specs.Prelude.{◌≡◌, IfOk, length};
+ghost use Rattle.test_sessions.specs.Scripts.{is_producer_script};
+
 use crate::{bytes_of, number_of, parted, push_exchange, text_of};
 use redis_wire::{Decoded, Limits, Reply, WireError, decode};
 use std::alloc::{AllocError, Global};
@@ -22,8 +25,27 @@ struct Feed {
     records: Vec<Record>,
 }
 
+/// Plays a script of this name. Returns whether it is one of this module.
+pub fn play(
+    alloc: Global,
+    name: &str,
+    words: &str,
+    lines: &str,
+    out: &mut String,
+) -> Result<bool, AllocError>
+    ensures { IfOk result (λ played. played ≡ is_producer_script name.now) }
+{
+    match name {
+        "producer" => {
+            play_lines(alloc, words, lines, out)?;
+            Ok(true)
+        }
+        _ => Ok(false),
+    }
+}
+
 /// Plays the lines of a script, or none if its settings are refused.
-pub fn play(alloc: Global, words: &str, lines: &str, out: &mut String) -> Result<(), AllocError> {
+fn play_lines(alloc: Global, words: &str, lines: &str, out: &mut String) -> Result<(), AllocError> {
     let head = format!(in alloc; "producer {words}")?;
     let (base, rest) = parted(words, ' ');
     let (batch, count) = parted(rest, ' ');
@@ -55,10 +77,12 @@ fn play_producer(
 }
 
 /// Returns `count` records, each with its number, from `first` on.
-pub fn records_of(alloc: Global, first: usize, count: usize) -> Result<Vec<Record>, AllocError> {
+pub fn records_of(alloc: Global, first: usize, count: usize) -> Result<Vec<Record>, AllocError>
+    ensures { IfOk result (λ records. length records.items ≡ count) }
+{
     let mut records = Vec::new(alloc);
-    for number in first..first.saturating_add(count) {
-        records.push(record_of(alloc, number)?)?;
+    for index in 0..count {
+        records.push(record_of(alloc, first.wrapping_add(index))?)?;
     }
     Ok(records)
 }

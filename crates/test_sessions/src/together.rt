@@ -12,6 +12,8 @@
 //! | `gone 2 30` | one of two workers is gone for good after 0, 1, 2 .. steps |
 //! | `schedules 1000` | two workers, 16 moves at random, faults among them, for each seed |
 //! | `settles 2 3` | one run, with no fault but refused memory; two workers, 3 entries |
+ghost use Rattle.std.specs.Prelude.{◌≡◌, IfOk};
+ghost use Rattle.test_sessions.specs.Scripts.{is_together_script};
 
 use crate::{answered, claim_settings, next, number_of, parted, protocol_of, push_line, told};
 use redis_wire::{Decoded, Limits, ReplyStream, WireError, append_answer, command_words, decode};
@@ -132,8 +134,21 @@ fn count_of(
     Ok(number_of(word))
 }
 
+/// Plays a script of this name. Returns whether it is one of this module.
+pub fn play(alloc: Global, name: &str, words: &str, out: &mut String) -> Result<bool, AllocError>
+    ensures { IfOk result (λ played. played ≡ is_together_script name.now) }
+{
+    match name {
+        "cuts" | "crashes" | "gone" | "schedules" | "settles" => {
+            play_named(alloc, name, words, out)?;
+            Ok(true)
+        }
+        _ => Ok(false),
+    }
+}
+
 /// Plays runs, and prints their outcome.
-pub fn play(alloc: Global, name: &str, words: &str, out: &mut String) -> Result<(), AllocError> {
+fn play_named(alloc: Global, name: &str, words: &str, out: &mut String) -> Result<(), AllocError> {
     let (number, word) = parted(words, ' ');
     let protocol = protocol_of(number);
     if name == "settles" {

@@ -16,6 +16,9 @@
 //! All is done twice: by a worker that reads replies by value, and by one that reads them in
 //! place. If the results differ, both are printed.
 
+ghost use Rattle.std.specs.Prelude.{◌≡◌, [], IfErr, IfOk, false, string_bytes};
+ghost use Rattle.test_sessions.specs.Scripts.{is_worker_script};
+
 pub mod connection;
 pub mod letters;
 pub mod streams;
@@ -303,8 +306,27 @@ fn is_reply(line: &str) -> bool {
     }
 }
 
+/// Plays a script of this name. Returns whether it is one of this module.
+pub fn play(
+    alloc: Global,
+    name: &str,
+    words: &str,
+    lines: &str,
+    out: &mut String,
+) -> Result<bool, AllocError>
+    ensures { IfOk result (λ played. played ≡ is_worker_script name.now) }
+{
+    match name {
+        "worker" => {
+            play_both(alloc, words, lines, out)?;
+            Ok(true)
+        }
+        _ => Ok(false),
+    }
+}
+
 /// Plays the lines of a script by value and in place.
-pub fn play(alloc: Global, words: &str, lines: &str, out: &mut String) -> Result<(), AllocError> {
+fn play_both(alloc: Global, words: &str, lines: &str, out: &mut String) -> Result<(), AllocError> {
     let by_value = Side::new(alloc, words, false)?;
     let in_place = Side::new(alloc, words, true)?;
     let mut both = Both { by_value, in_place };
@@ -361,7 +383,13 @@ pub struct Doer {
 
 impl Doer {
     /// A handler that does every entry.
-    pub fn new(alloc: Global) -> Doer {
+    pub fn new(alloc: Global) -> Doer
+        ensures verdicts { result.says.items ≡ [] }
+        ensures refuses { result.refuses ≡ false }
+        ensures commits { result.commits ≡ 0 }
+        ensures seen { string_bytes result.seen ≡ [] }
+        ensures room { result.is_short ≡ false }
+    {
         Doer {
             kept: Gathered::new(alloc),
             says: Vec::new(alloc),
@@ -390,7 +418,11 @@ impl Doer {
     }
 
     /// The entries that it was given since the last call, and the counts of those that it kept.
-    pub fn standing(&mut self, alloc: Global) -> Result<String, AllocError> {
+    pub fn standing(&mut self, alloc: Global) -> Result<String, AllocError>
+        ensures ok { IfOk result (λ _. string_bytes self.new.seen ≡ []) }
+        ensures err { IfErr result (λ _. string_bytes self.new.seen ≡ string_bytes self.old.seen) }
+        ensures commits { self.new.commits ≡ self.old.commits }
+    {
         self.check()?;
         let text = format!(in alloc;
             "{}; loose {}, committed {} in {}",

@@ -7,6 +7,8 @@ use Rattle.redis_wire.specs.Reply as wire
 use Rattle.redis_wire.specs.Written.{count_bytes}
 use Rattle.worker_producer.specs.Replies.{is_executed}
 use Rattle.worker_producer.specs.Sentences.{own_id}
+use Rattle.worker_producer.specs.declared.stage.Stage.{Stage}
+use Rattle.worker_producer.specs.declared.stage.Stage.TheVariants as stages
 
 -- the ids of this number of records, which come after a number
 abbrev pub own_ids : ℕ → ℕ → List (List ℕ)
@@ -25,3 +27,8 @@ executed_bytes before n = count_bytes 42 n ++ ids_bytes before n
 -- the first `len` bytes received are a reply by which this number of records are in the stream
 abbrev pub HoldsExecuted : ℕ → Link → ℕ → Type 0
 HoldsExecuted n link len = (a : wire.Answer) × (is_executed n a ≡ true) × AnswerStands link link len a
+
+-- a batch of this number of records, after a number, is on its way
+abbrev pub IsExpected : ℕ → Stage → ℕ → ℕ → Type 0
+IsExpected base (stages.Waits batch) before sent = (before ≡ base + batch.known) × (sent ≡ batch.sent)
+IsExpected base _ before sent = ⊥

@@ -26,6 +26,8 @@ impl ExecutedReply {
     /// The reply for `sent` records, of which the first has the id `(before + 1)-0`.
     pub fn new(alloc: Global, before: u64, sent: u64) -> Result<ExecutedReply, AllocError>
         requires { before + sent < 2 ^ 64 }
+        ensures before { IfOk result (λ reply. reply.before ≡ before) }
+        ensures sent { IfOk result (λ reply. reply.sent ≡ sent) }
     {
         let mut bytes = Vec::new(alloc);
         push_count(&mut bytes, b'*', sent as usize)?;

@@ -2,6 +2,7 @@
 ghost use Rattle.std.specs.Prelude.{◌≡◌, ◌⊎◌, ◌+◌, ◌<◌, ◌≤◌, ◌^◌, ◌++◌, IfErr, IfOk, OnErr, OnOk, false, length, map};
 ghost use Rattle.std.specs.Prelude.{IfSome, string_bytes, true};
 ghost use Rattle.redis_wire.specs.Reply.{answer};
+ghost use Rattle.worker_producer.specs.Executed.{IsExpected};
 ghost use Rattle.worker_producer.specs.Learnt.{Learns, Took, Unlearnt, Untaken};
 ghost use Rattle.worker_producer.specs.Machine.{Asks, AsksNone, Sends, Sent, Unsent, idle};
 ghost use Rattle.worker_producer.specs.Machine.{stage_of, standing_of};
@@ -83,7 +84,9 @@ impl Producer {
 
     /// The bytes of the reply to EXEC if each record of the batch that is on its way is added; `None` if no batch is on
     /// its way, or if memory ran out.
-    pub(crate) fn expect_executed(&self, alloc: Global) -> Option<ExecutedReply> {
+    pub(crate) fn expect_executed(&self, alloc: Global) -> Option<ExecutedReply>
+        ensures { IfSome result (λ reply. IsExpected self.now.settings.base self.now.stage reply.before reply.sent) }
+    {
         let Stage::Waits(batch) = self.stage else {
             return None;
         };

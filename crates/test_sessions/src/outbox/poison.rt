@@ -2,6 +2,8 @@
 //!
 //! A handler stops at an entry with a field `poison`. The text of a start has the entries that were committed before it
 //! ended, and those that the handler was given.
+ghost use Rattle.std.specs.Prelude.{◌≡◌, [], IfOk, string_bytes};
+
 use crate::group_settings;
 use crate::workers::Doer;
 use redis_connection::Connection;
@@ -20,7 +22,9 @@ pub fn started<R: Read + Drop, W: Write + Drop>(
     connection: &mut Connection<R, W>,
     doer: &mut Doer,
     deliveries: usize,
-) -> Result<String, AllocError> {
+) -> Result<String, AllocError>
+    ensures { IfOk result (λ _. string_bytes doer.new.seen ≡ []) }
+{
     doer.kept.loose.clear();
     live(alloc, connection, doer, deliveries)?;
     started_text(alloc, doer)
@@ -91,7 +95,9 @@ fn asked<R: Read + Drop, W: Write + Drop>(
 }
 
 /// The ids of the entries that were committed so far, and what the handler was given.
-fn started_text(alloc: Global, doer: &mut Doer) -> Result<String, AllocError> {
+fn started_text(alloc: Global, doer: &mut Doer) -> Result<String, AllocError>
+    ensures { IfOk result (λ _. string_bytes doer.new.seen ≡ []) }
+{
     let mut text = String::from_str(alloc, "committed")?;
     for row in &doer.kept.committed {
         text.push(' ')?;

@@ -15,6 +15,8 @@
 //! | `show 5`, `give 5` | 5 bytes in place are printed, are removed |
 //! | `run 7` | the worker makes 7 rounds |
 //! | `pipeline` | it makes a round, or two with one write |
+ghost use Rattle.std.specs.Prelude.{◌≡◌, IfOk};
+ghost use Rattle.test_sessions.specs.Scripts.{is_connection_script};
 
 use crate::workers::{LIMITS, Side, Spans, asked, done, error_text};
 use crate::{bytes_of, commands_text, number_of, parted, push_exchange, push_line, text_of};
@@ -403,8 +405,31 @@ fn do_lines<R: Read + Drop, W: Write + Drop>(
     Ok(())
 }
 
+/// Plays a script of this name. Returns whether it is one of this module.
+pub fn play(
+    alloc: Global,
+    name: &str,
+    words: &str,
+    lines: &str,
+    out: &mut String,
+) -> Result<bool, AllocError>
+    ensures { IfOk result (λ played. played ≡ is_connection_script name.now) }
+{
+    match name {
+        "connection" => {
+            play_sizes(alloc, words, lines, out)?;
+            Ok(true)
+        }
+        "ends" => {
+            play_ends(alloc, words, lines, out)?;
+            Ok(true)
+        }
+        _ => Ok(false),
+    }
+}
+
 /// Plays a connection, once for each size.
-pub fn play(alloc: Global, words: &str, lines: &str, out: &mut String) -> Result<(), AllocError> {
+fn play_sizes(alloc: Global, words: &str, lines: &str, out: &mut String) -> Result<(), AllocError> {
     let mut last = String::new(alloc);
     for word in words.split(' ') {
         let most = word.parse::<usize>().unwrap_or(usize::MAX);
@@ -480,12 +505,7 @@ fn input_of(alloc: Global, lines: &str) -> Result<Vec<u8>, AllocError> {
 }
 
 /// Plays runs over a connection that ends after each byte of the input.
-pub fn play_ends(
-    alloc: Global,
-    words: &str,
-    lines: &str,
-    out: &mut String,
-) -> Result<(), AllocError> {
+fn play_ends(alloc: Global, words: &str, lines: &str, out: &mut String) -> Result<(), AllocError> {
     let input = input_of(alloc, lines)?;
     let rounds = number_of(words) as u64;
     let mut sent = Vec::new(alloc);

@@ -1,5 +1,7 @@
 //! Dead letters. A line is `give` with an id, deliveries and a field, or a reply's bytes, which reply
 //! to the next command of the letters.
+ghost use Rattle.std.specs.Prelude.{◌≡◌, IfOk};
+ghost use Rattle.test_sessions.specs.Scripts.{is_letters_script};
 
 use crate::workers::LIMITS;
 use crate::{bytes_of, commands_text, number_of, parted, push_exchange};
@@ -48,8 +50,21 @@ fn told(alloc: Global, letters: &mut DeadLetters, line: &str) -> Result<String, 
     }
 }
 
+/// Plays a script of this name. Returns whether it is one of this module.
+pub fn play(alloc: Global, name: &str, lines: &str, out: &mut String) -> Result<bool, AllocError>
+    ensures { IfOk result (λ played. played ≡ is_letters_script name.now) }
+{
+    match name {
+        "letters" => {
+            play_letters(alloc, lines, out)?;
+            Ok(true)
+        }
+        _ => Ok(false),
+    }
+}
+
 /// Plays entries that are given up, and replies.
-pub fn play(alloc: Global, lines: &str, out: &mut String) -> Result<(), AllocError> {
+fn play_letters(alloc: Global, lines: &str, out: &mut String) -> Result<(), AllocError> {
     let key = String::from_str(alloc, "k")?;
     let group = String::from_str(alloc, "g")?;
     let stream = String::from_str(alloc, "dead")?;

@@ -1,6 +1,8 @@
 //! One consumer of several streams: a worker for each, over one connection and with one handler.
 //!
 //! The words of the first line are the protocol, the number of turns of each worker, and the streams.
+ghost use Rattle.std.specs.Prelude.{◌≡◌, IfOk};
+ghost use Rattle.test_sessions.specs.Scripts.{is_streams_script};
 
 use crate::workers::{Doer, told};
 use crate::{
@@ -61,8 +63,32 @@ fn turn(
     )
 }
 
+/// Plays a script of this name. Returns whether it is one of this module.
+pub fn play(
+    alloc: Global,
+    name: &str,
+    words: &str,
+    lines: &str,
+    out: &mut String,
+) -> Result<bool, AllocError>
+    ensures { IfOk result (λ played. played ≡ is_streams_script name.now) }
+{
+    match name {
+        "streams" => {
+            play_streams(alloc, words, lines, out)?;
+            Ok(true)
+        }
+        _ => Ok(false),
+    }
+}
+
 /// Plays workers of streams, and prints the pending entries at the end.
-pub fn play(alloc: Global, words: &str, lines: &str, out: &mut String) -> Result<(), AllocError> {
+fn play_streams(
+    alloc: Global,
+    words: &str,
+    lines: &str,
+    out: &mut String,
+) -> Result<(), AllocError> {
     let (protocol, rest) = parted(words, ' ');
     let (turns, keys) = parted(rest, ' ');
     let mut peer = Peer {
