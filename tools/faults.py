@@ -1,9 +1,7 @@
 """What the tools of tools/live have in common: the lines that go through a stream, kills and cuts, and how what came
 out is compared with what went in."""
-import collections
 import contextlib
 import math
-import multiprocessing
 import os
 import re
 import select
@@ -12,7 +10,7 @@ import socket
 import threading
 import time
 
-from shared import TOOL, begun_below, resp
+from shared import begun_below, resp
 
 UNCUT = None, math.inf
 # The words of a server that has its log on the disk before it replies.
@@ -43,7 +41,7 @@ def lines_in(data):
 
 def compared(files, wanted):
     """How many of the wanted lines no file has, how many others there are, how many of the first of their kind come
-    after a later one of their file, and how many come again."""
+    after a later one of their file, and how many come again, each under its name in a table."""
     places = {line: place for place, line in enumerate(wanted)}
     seen, foreign, order, repeated = set(), 0, 0, 0
     for lines in files:
@@ -57,7 +55,7 @@ def compared(files, wanted):
                 seen.add(place)
                 order += place < last
                 last = place
-    return len(places) - len(seen), foreign, order, repeated
+    return {"Missing": len(places) - len(seen), "Foreign": foreign, "Out of order": order, "Repeated": repeated}
 
 
 class Way:
@@ -202,42 +200,3 @@ class Link:
         self.far.close()
         self.came_late = replies.endswith(b"+PONG\r\n") and self.held.endswith(resp.encode(["EXEC"]))
         self.added_late = self.came_late and re.search(rb"\r\n\d+-0\r\n", replies) is not None
-
-
-# Changed bytes.
-
-
-def with_bytes_changed(chance, data, at, pieces, others):
-    """Changes bytes at one place: one is flipped, some are cut or repeated, a piece is put in, or one of the others is
-    done, each with the place and its end."""
-    end = min(len(data), at + 1 + chance.randrange(chance.choice([2, 8, 40])))
-    kind = chance.randrange(4 + len(others))
-    if kind == 0:
-        return data[:at] + bytes([data[at] ^ 1 << chance.randrange(8)]) + data[at + 1:]
-    if kind == 1:
-        return data[:at] + data[end:]
-    if kind == 2:
-        return data[:at] + chance.choice(pieces) + data[at:]
-    if kind == 3:
-        return data[:end] + data[at:]
-    return others[kind - 4](chance, data, at, end)
-
-
-def cut_off(_chance, data, at, _end):
-    """Cuts all after a place off."""
-    return data[:at]
-
-
-def play_all(play, arguments, number, chunk, jobs):
-    """Plays so many, in chunks, by so many processes: `play` takes the arguments with the numbers of a chunk, and
-    returns counts, and a line for each that went otherwise, which is printed. Returns the counts, and how many lines
-    there were."""
-    counts, wrong = collections.Counter(), 0
-    chunks = [(*arguments, range(at, min(at + chunk, number))) for at in range(0, number, chunk)]
-    with multiprocessing.Pool(jobs) as pool:
-        for counted, lines in pool.imap_unordered(play, chunks):
-            counts.update(counted)
-            wrong += len(lines)
-            for line in lines:
-                print(f"{TOOL}: {line}", flush=True)
-    return counts, wrong
