@@ -1,5 +1,5 @@
 -- A run of the program, by its outcome.
-use Rattle.std.proofs.Common.{◌≡◌, ◌<◌, ◌⊎◌, ℕ, Err, IfOk, IfSome, IsOk, IsTrue, List, Ok, OnErr, OnOk, Option, Result, arith, false, inl, inr, refl, true, MatchResult, None, Some, ◌++◌, ◌∙◌, ap, append_assoc, drop, subst, sym, take}
+use Rattle.std.proofs.Common.{◌≡◌, ◌⊎◌, ℕ, Err, IfOk, IfSome, IsTrue, List, Ok, OnErr, OnOk, Option, Result, false, inl, inr, MatchResult, None, Some, ◌++◌, ◌∙◌, ap, append_assoc, drop, subst, sym, take}
 use Rattle.std.proofs.lemmas.List.{take-append-drop}
 use Rattle.worker_journal.specs.Holds.{committed_in}
 use Rattle.worker_journal.specs.Lines.{IsRepaired, StartsWith}
@@ -12,7 +12,7 @@ use Rattle.worker.specs.declared.state.Asked.{Asked}
 use Rattle.worker.specs.declared.state.Settings.{Settings}
 use Rattle.stream_drain.specs.Lived.{Leads}
 use Rattle.stream_drain.specs.Options.{AreOptionsOf}
-use Rattle.stream_drain.specs.Program.{BeginsFile, EndsAsSaid, EndsBy, EndsSo, IsRun, RunsAsSaid, RunsBy, SearchesAfter, StartsIn, settings_with}
+use Rattle.stream_drain.specs.Program.{BeginsFile, EndsAsSaid, EndsBy, EndsSo, Goes, GoesToTheEnd, IsRun, RunsAsSaid, RunsBy, SearchesAfter, Starts, StartsIn, settings_with}
 use Rattle.command_lines.specs.Words.{Text}
 use Rattle.stream_drain.specs.declared.options.Options.{Options}
 use Rattle.stream_drain.specs.Turn.{EachIsConfirmed}
@@ -29,34 +29,59 @@ searched_first settings (Some d) asked l m n w x searched leads = λ waits. (m, 
 
 module _ {A E : Type 0} (r : Result A E) (settings : Settings) (wait : Option Wait) (old new : Link)
     (w x : Standing Written) where
-  went_so : Leads (Drains settings) old new w x → IsRun settings Drains w.history old new
-  went_so went = record { first = w; last = x; begins = refl; went = went }
+  went_so : Leads (Drains settings) old new w x → Goes settings Drains w old new
+  went_so went = record { last = x; went = went }
 
   pub ends_so : OnOk r (Leads (Loops settings) old new w x)
       → OnOk r (IfSome wait (λ one. EachIsConfirmed settings one old new w x))
-      → OnOk r (EndsSo settings wait w.history old new)
+      → OnOk r (GoesToTheEnd settings wait w old new)
   ends_so = elim r as (λ r. OnOk r (Leads (Loops settings) old new w x)
       → OnOk r (IfSome wait (λ one. EachIsConfirmed settings one old new w x))
-      → OnOk r (EndsSo settings wait w.history old new)) [
-        | Ok a ↦ λ went sure. record {
-          run = record { first = w; last = x; begins = refl; went = went };
-          confirmed = sure;
-        }
+      → OnOk r (GoesToTheEnd settings wait w old new)) [
+        | Ok a ↦ λ went sure. record { last = x; went = went; confirmed = sure }
         | Err e ↦ λ went sure. tt
       ]
 
-  pub stops_so : OnErr r (Leads (Stops settings) old new w x) → OnErr r (IsRun settings Drains w.history old new)
+  pub stops_so : OnErr r (Leads (Stops settings) old new w x) → OnErr r (Goes settings Drains w old new)
   stops_so = elim r as (λ r. OnErr r (Leads (Stops settings) old new w x)
-      → OnErr r (IsRun settings Drains w.history old new))
+      → OnErr r (Goes settings Drains w old new))
       [ Ok a ↦ λ stops. tt | Err e ↦ λ stops. went_so (with_stops settings old new w x stops) ]
 
   -- however it ended, the rounds went so
   pub either_way : OnOk r (Leads (Loops settings) old new w x) → OnErr r (Leads (Stops settings) old new w x)
-      → IsRun settings Drains w.history old new
+      → Goes settings Drains w old new
   either_way = elim r as (λ r. OnOk r (Leads (Loops settings) old new w x) → OnErr r (Leads (Stops settings) old new w x)
-      → IsRun settings Drains w.history old new) [
+      → Goes settings Drains w old new) [
         | Ok a ↦ λ loops stops. went_so (with_loops settings old new w x loops)
         | Err e ↦ λ loops stops. went_so (with_stops settings old new w x stops)
+      ]
+
+-- a run, from where its worker started; the worker's settings `s` and the run's wait `v` are those of the options
+module _ {A E : Type 0} (r : Result A E) (s settings : Settings) (lines : Written) (first : Standing Written)
+    (old new : Link) (same : s ≡ settings) (starts : Starts settings lines first) where
+  pub ends_over : (v wait : Option Wait) → v ≡ wait → OnOk r (GoesToTheEnd s v first old new)
+      → OnOk r (EndsSo settings wait lines old new)
+  ends_over v wait is = elim r as (λ r. OnOk r (GoesToTheEnd s v first old new)
+      → OnOk r (EndsSo settings wait lines old new)) [
+        | Ok a ↦ λ goes. record {
+          first = first;
+          starts = starts;
+          goes = subst (λ (v : Option Wait). GoesToTheEnd settings v first old new) is
+              (subst (λ (t : Settings). GoesToTheEnd t v first old new) same goes);
+        }
+        | Err e ↦ λ goes. tt
+      ]
+
+  pub runs_over : OnErr r (Goes s Drains first old new)
+      → OnErr r ((new ≡ old) ⊎ IsRun settings Drains lines old new)
+  runs_over = elim r as (λ r. OnErr r (Goes s Drains first old new)
+      → OnErr r ((new ≡ old) ⊎ IsRun settings Drains lines old new)) [
+        | Ok a ↦ λ goes. tt
+        | Err e ↦ λ goes. inr (record {
+          first = first;
+          starts = starts;
+          goes = subst (λ (t : Settings). Goes t Drains first old new) same goes;
+        })
       ]
 
 -- a file that was cut after its last complete line begins as it did

@@ -1,6 +1,6 @@
 -- What the lines of entries tell: their ids.
 use Rattle.std.proofs.Common.{◌≡◌, ◌≢◌, ◌∙◌, ◌⊎◌, ◌/◌, ◌%◌, inl, inr, refl, sym, ap, subst, ℕ, Bool, true, false, cond, List, [], ◌∷◌}
-use Rattle.std.proofs.Common.{◌++◌, Some, codes, arith, flat_map, drop, take}
+use Rattle.std.proofs.Common.{◌++◌, Some, codes, arith, drop, take}
 use Rattle.std.specs.Prelude.{nat_lt}
 use Rattle.std.specs.Char.{digit_char}
 use Rattle.std.specs.List.{list_all}

@@ -13,6 +13,7 @@ use Rattle.worker.specs.declared.state.Asked.{Asked}
 use Rattle.worker.specs.declared.state.Settings.{Settings}
 use Rattle.stream_drain.specs.Lived.{Leads}
 use Rattle.stream_drain.specs.Options.{AreOptionsOf}
+use Rattle.stream_drain.specs.Resumed.{BeginsSo, BeginsWithLast}
 use Rattle.command_lines.specs.Words.{Text}
 use Rattle.stream_drain.specs.declared.options.Options.{Options}
 use Rattle.stream_drain.specs.Turn.{EachIsConfirmed}
@@ -44,17 +45,41 @@ abbrev pub SearchesAfter : DeadLetterSearch → Asked → Link → Link → Type
 SearchesAfter d asked old new =
     (reads : ℕ) × IsCounted d.reads asked reads × IsSearched (searcher_of d) d.begun reads old new
 
+-- the most lines whose entries a start acknowledges
+abbrev pub most_lines : ℕ
+most_lines = 10000
+
+-- A worker before its first command. If no lines are gathered, and the committed bytes are known, it acknowledges
+-- the entries of the last committed lines first.
+pub record Starts (settings : Settings) (lines : Written) (first : Standing Written) : Type 0 where
+  pub begins : first.history ≡ lines
+  pub lives : lines.loose ≡ []
+      → IfSome lines.committed (λ bytes. BeginsSo most_lines settings lines.json lines.known bytes first)
+  pub last : lines.loose ≡ []
+      → IfSome lines.committed (λ bytes. BeginsWithLast most_lines settings lines.json lines.known bytes first)
+
+-- rounds of `way` led from `first` over the connection
+pub record Goes (settings : Settings) (way : Settings → Way) (first : Standing Written) (old new : Link) : Type 0 where
+  pub last : Standing Written
+  pub went : Leads (way settings) old new first last
+
+-- complete rounds led from `first` over the connection. If `WAIT` is used, each of them was confirmed.
+pub record GoesToTheEnd (settings : Settings) (wait : Option Wait) (first : Standing Written) (old new : Link) : Type 0 where
+  pub last : Standing Written
+  pub went : Leads (Loops settings) old new first last
+  pub confirmed : IfSome wait (λ one. EachIsConfirmed settings one old new first last)
+
 -- a worker with these settings, whose handler began with `lines`, made the rounds of `way` over the connection
 pub record IsRun (settings : Settings) (way : Settings → Way) (lines : Written) (old new : Link) : Type 0 where
   pub first : Standing Written
-  pub last : Standing Written
-  pub begins : first.history ≡ lines
-  pub went : Leads (way settings) old new first last
+  pub starts : Starts settings lines first
+  pub goes : Goes settings way first old new
 
 -- The run ended after complete rounds. If `WAIT` is used, each round was confirmed.
 pub record EndsSo (settings : Settings) (wait : Option Wait) (lines : Written) (old new : Link) : Type 0 where
-  pub run : IsRun settings Loops lines old new
-  pub confirmed : IfSome wait (λ one. EachIsConfirmed settings one old new run.first run.last)
+  pub first : Standing Written
+  pub starts : Starts settings lines first
+  pub goes : GoesToTheEnd settings wait first old new
 
 -- the bytes of a file begin with the committed text, if both are known
 abbrev pub BeginsFile : Option Text → Option Text → Type 0

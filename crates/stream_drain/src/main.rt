@@ -27,7 +27,9 @@ ghost use Rattle.std.specs.Prelude.{◌≡◌, ◌≤◌, ◌⊎◌, [], IfOk, I
 ghost use Rattle.std.specs.Process.{exit_status};
 ghost use Rattle.model_workers.specs.Loops.Loop.{Drains};
 ghost use Rattle.worker_journal.specs.Holds.{committed_in};
-ghost use Rattle.stream_drain.specs.Program.{BeginsFile, EndsAsSaid, EndsBy, EndsSo, IsRun, RunsAsSaid, RunsBy, searcher_by, settings_with};
+ghost use Rattle.stream_drain.specs.Program.{BeginsFile, EndsAsSaid, EndsBy, EndsSo, Goes, GoesToTheEnd, IsRun, RunsAsSaid, RunsBy};
+ghost use Rattle.stream_drain.specs.Program.{Starts, searcher_by, settings_with};
+ghost use Rattle.worker.specs.Session.{standing_of};
 ghost use Rattle.worker.specs.DeadLetters.Dead.{searcher_of};
 ghost use Rattle.command_lines.specs.Words.{asks_help};
 
@@ -208,6 +210,9 @@ struct Run {
 /// Creates a run with these options over the file of `lines`.
 fn begin_run<D: LogFile + Drop>(alloc: Global, options: Options, lines: &Lines<D>) -> Result<Run>
     ensures settings { IfOk result (λ run. run.worker.settings ≡ settings_with options.dead options.settings) }
+    ensures starts { IfOk result (λ run. Starts (settings_with options.dead options.settings)
+        (⟦<Lines<D> as Handler>⟧.history lines.now)
+        (standing_of run.worker (⟦<Lines<D> as Handler>⟧.history lines.now))) }
     ensures wait { IfOk result (λ run. run.wait ≡ options.wait) }
     ensures until_empty { IfOk result (λ run. run.until_empty ≡ options.until_empty) }
     ensures dead { IfOk result (λ run. option_map searcher_of run.dead
@@ -236,10 +241,10 @@ fn make_run<R: Read + Drop, W: Write + Drop, D: LogFile + Drop, T: Clock + Eprin
     run: &mut Run,
 ) -> Result<Drained, Failure>
     ensures ended { IfOk result (λ _. IsTrue run.old.until_empty) }
-    ensures ok { OnOk result (EndsSo run.old.worker.settings run.old.wait
-        (⟦<Lines<D> as Handler>⟧.history lines.old) connection.old connection.new) }
-    ensures err { OnErr result (IsRun run.old.worker.settings Drains
-        (⟦<Lines<D> as Handler>⟧.history lines.old) connection.old connection.new) }
+    ensures ok { OnOk result (GoesToTheEnd run.old.worker.settings run.old.wait
+        (standing_of run.old.worker (⟦<Lines<D> as Handler>⟧.history lines.old)) connection.old connection.new) }
+    ensures err { OnErr result (Goes run.old.worker.settings Drains
+        (standing_of run.old.worker (⟦<Lines<D> as Handler>⟧.history lines.old)) connection.old connection.new) }
 {
     let ended = drain(
         rt,
@@ -272,6 +277,8 @@ fn begin_worker<D: LogFile + Drop>(
     path: &str,
 ) -> Result<Start>
     ensures settings { IfOk result (λ start. start.worker.settings ≡ settings) }
+    ensures starts { IfOk result (λ start. Starts settings (⟦<Lines<D> as Handler>⟧.history lines.now)
+        (standing_of start.worker (⟦<Lines<D> as Handler>⟧.history lines.now))) }
 {
     begun(alloc, settings, lines).context(format_args!("cannot go on with {path}"))
 }

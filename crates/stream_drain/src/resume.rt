@@ -5,6 +5,7 @@ ghost use Rattle.worker_journal.specs.Holds.{committed_in};
 ghost use Rattle.worker_journal.specs.LastLines.{last_of, lines_of};
 ghost use Rattle.worker_journal.specs.LineTexts.{bytes_of};
 ghost use Rattle.stream_drain.specs.Resumed.{BeginsSo, BeginsWithLast, Tells, TellEach, is_of_id};
+ghost use Rattle.stream_drain.specs.Program.{Starts};
 ghost use Rattle.stream_drain.specs.Counts.{has_any};
 ghost use Rattle.stream_drain.specs.Known.{known_by};
 ghost use Rattle.worker.specs.Machine.{ids_of};
@@ -38,6 +39,8 @@ pub fn begun<D: LogFile + Drop>(
     ensures settings { IfOk result (λ b. b.worker.settings ≡ settings) }
     ensures acknowledges { IfOk result (λ b. IfSome (committed_in (D.seen lines.now.log.file) lines.now.log.len)
         (λ bytes. b.acknowledges ≡ has_any (last_of LARGEST_COUNT (lines_of bytes)))) }
+    ensures starts { IfOk result (λ b. Starts settings (⟦<Lines<D> as Handler>⟧.history lines.now)
+        (standing_of b.worker (⟦<Lines<D> as Handler>⟧.history lines.now))) }
     ensures lives { IfOk result (λ b. lines.now.log.batch.items ≡ []
         → IfSome (committed_in (D.seen lines.now.log.file) lines.now.log.len)
         (λ bytes. BeginsSo LARGEST_COUNT settings lines.now.json (known_by lines.now.known) bytes

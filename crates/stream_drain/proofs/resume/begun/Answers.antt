@@ -1,4 +1,4 @@
-use Rattle.std.proofs.Common.{◌∙◌, ap}
+use Rattle.std.proofs.Common.{◌∙◌, ap, refl}
 use Rattle.worker_journal.specs.Holds.{committed_in}
 use Rattle.worker.specs.Machine.{ids_of, machine_of}
 use Rattle.stream_drain.specs.declared.resume.TheConstants.{LARGEST_COUNT}
@@ -24,6 +24,10 @@ returns-clause-last g c empty =
     (committed_in (g.D.LogFile.seen c.args.lines.now.log.file) c.args.lines.now.log.len)
     (machine_of w) w.group w.asked c.resumed-worker.ensures.machine c.resumed-worker.ensures.group
     c.resumed-worker.ensures.asked empty c.in_ok-ids.ensures
+
+pub returns-clause-starts : goal.returns-clause-starts
+returns-clause-starts g c =
+    record { begins = refl; lives = returns-clause-lives g c; last = returns-clause-last g c }
 
 pub returns-clause-acknowledges : goal.returns-clause-acknowledges
 returns-clause-acknowledges g c =
