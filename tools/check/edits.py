@@ -145,10 +145,8 @@ def sources(crate):
 
 
 def size_of(crate):
-    """Returns how many bytes the texts of the crate have: the more, the longer its check takes."""
-    folder = f"{ROOT}/crates/{crate}"
-    return sum(os.path.getsize(f"{at}/{name}") for part in PARTS for at, _,
-               names in os.walk(f"{folder}/{part}") for name in names)
+    """Returns how long the sources of the crate are: the more, the longer its check takes."""
+    return sum(len(text) for _, text in sources(crate))
 
 
 class Calls:
