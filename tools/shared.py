@@ -14,7 +14,7 @@ import subprocess
 import sys
 import threading
 import time
-from typing import Any, Callable, Dict, Iterable, List, NamedTuple, Optional, Sequence, Tuple, Union
+from typing import Any, Callable, Dict, Iterable, Iterator, List, NamedTuple, Optional, Sequence, Tuple, Union
 
 sys.dont_write_bytecode = True
 ROOT = os.path.dirname(os.path.dirname(os.path.abspath(__file__)))
@@ -149,6 +149,23 @@ def write(path: str, data: Union[str, bytes], mode: int = 0) -> str:
     if mode:
         os.chmod(path, mode)
     return path
+
+
+def blocks_of(lines: Sequence[str]) -> Iterator[Tuple[Optional[str], int, List[str]]]:
+    """Yields the language of each block of a page, None for an indented one, the number of its first line, and its
+    lines."""
+    at = 0
+    while at < len(lines):
+        fence, end = re.match(r"\s*```(\w*)$", lines[at]), at + 1
+        if fence:
+            end = next((each for each in range(end, len(lines)) if lines[each].strip() == "```"), len(lines))
+            yield fence[1], at + 2, list(lines[at + 1:end])
+            end += 1
+        elif lines[at].startswith("    ") and (at == 0 or not lines[at - 1].strip()):
+            while end < len(lines) and (lines[end].startswith("    ") or not lines[end].strip()):
+                end += 1
+            yield None, at + 1, [line.strip() for line in lines[at:end]]
+        at = end
 
 
 def crates() -> Dict[str, List[str]]:

@@ -5,12 +5,11 @@ import os
 import re
 import shutil
 import subprocess
-import sys
 import tempfile
 import threading
 
 from shared import fail, text_of as read, write
-from unproved import KIT, ROOT
+from unproved import KIT, ROOT, crate_of
 
 PARTS = ("src", "specs", "proofs")
 BUILDING = threading.Lock()
@@ -87,10 +86,7 @@ def edited(crate, edit, texts=None):
 
 def check_words(crate, *flags, with_tests=False):
     """Returns the words by which the crate is checked over the built libraries below it, as 'rt check' does."""
-    if f"{KIT}/bin" not in sys.path:
-        sys.path.insert(0, f"{KIT}/bin")
-    import rtlib
-    crate = rtlib.Crate(f"{ROOT}/crates/{crate}", ROOT, {})
+    crate = crate_of(crate)
     with BUILDING:
         for below in crate.below():
             if not os.path.isdir(below.rlib) and subprocess.run(
