@@ -94,12 +94,12 @@ def differences(**pairs: Tuple[Any, Any]) -> List[str]:
     return [f"{what}: {end(got)}, not {end(right)}" for what, (got, right) in pairs.items() if got != right]
 
 
-def judge(crate: str, doc: Optional[str], sessions: Callable[[], Iterable[Session]],
-          more: Callable[[str], Iterable[Check]] = lambda program: ()) -> int:
-    """Plays all sessions with the program of a tool, and then more checks. Prints what goes otherwise. Returns the
-    status of the tool."""
-    program = program_of(crate, words_of(doc, "PROGRAM?").PROGRAM)
-    played = ((f"{session.name} ({session.words})", session.differs(program)) for session in sessions())
+def judge(crate: str, tool: Dict[str, Any], more: Callable[[str], Iterable[Check]] = lambda program: ()) -> int:
+    """Plays all sessions of a tool, whose names these are, with its program: those of each of its functions whose name
+    begins with sessions_. Then more checks. Prints what goes otherwise. Returns the status of the tool."""
+    program = program_of(crate, words_of(tool["__doc__"], "PROGRAM?").PROGRAM)
+    played = ((f"{session.name} ({session.words})", session.differs(program))
+              for name, sessions in tool.items() if name.startswith("sessions_") for session in sessions())
     run = failed = 0
     for name, wrong in itertools.chain(played, more(program)):
         run, failed = run + 1, failed + bool(wrong)
