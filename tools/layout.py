@@ -11,7 +11,7 @@ import tempfile
 import textwrap
 import time as clock
 from concurrent.futures import ThreadPoolExecutor
-from typing import Dict, Iterator, List, NamedTuple, Sequence
+from typing import Dict, Iterator, List, NamedTuple
 
 from shared import ROOT, TOOL, Failed, content, crates_below, ran
 from shared import write as write_file
@@ -105,14 +105,6 @@ class Build(NamedTuple):
         return f"{'proved' if self.is_proved else 'unproved'}, {commit}{', changed' if self.is_changed else ''}"
 
 
-def make(words: Sequence[str]) -> None:
-    """Runs a command that takes minutes, and shows its output as it comes."""
-    done = subprocess.run(words, stdin=subprocess.DEVNULL, stderr=subprocess.PIPE, cwd=ROOT, text=True,
-                          errors="replace", check=False)
-    if done.returncode:
-        raise Failed(f"{' '.join(words[:3])}: {done.stderr[-1500:]}")
-
-
 @contextlib.contextmanager
 def step(done: str) -> Iterator[None]:
     """Says that something is done, and the seconds that it took, once it is."""
@@ -153,7 +145,11 @@ def build_programs(is_proved: bool) -> Dict[str, str]:
             "compiles these, which takes minutes"
         print(f"{TOOL}: {how}: {', '.join(lacking)}", flush=True)
     if lacking and not is_proved:
-        make([f"{ROOT}/tools/build-program", *lacking, KEPT])
+        # (its output is shown as it comes)
+        done = subprocess.run([f"{ROOT}/tools/build-program", *lacking, KEPT], stdin=subprocess.DEVNULL, cwd=ROOT,
+                              stderr=subprocess.PIPE, text=True, errors="replace", check=False)
+        if done.returncode:
+            raise Failed(f"tools/build-program: {done.stderr[-1500:]}")
     for name in lacking if is_proved else ():
         with step(f"{name} is proved and built"):
             ran(["rt", "run", "--", "--help"], f"{ROOT}/crates/{name}")
@@ -166,7 +162,13 @@ def build_library(is_proved: bool) -> Dict[str, bytes]:
     archive, shared = f"{into}/lib{LIBRARY}.a", f"{into}/lib{LIBRARY}.so"
     if not is_current(archive, LIBRARY) or not is_current(shared, LIBRARY):
         os.makedirs(into, exist_ok=True)
-        compile_library(is_proved)
+        try:
+            # (the programs take longer; if it is proved, over the libraries that the gate left, or over new ones)
+            ran([f"{ROOT}/tools/build-c"] if is_proved else ["nice", "-n", "5", f"{ROOT}/tools/build-c", "--unproved"])
+        except Failed:
+            if not is_proved:
+                raise
+            ran(["rt", "lib"], f"{ROOT}/crates/{LIBRARY}")
         with tempfile.TemporaryDirectory(prefix="library-") as folder:
             script = f"create {archive}\naddlib {raw}\naddlib {KIT}/c/liblibc_c.a\nsave\nend\n"
             ran(["bash", "-c", f"{KIT}/toolchain/bin/llvm-ar -M < {write_file(f'{folder}/script', script)}"])
@@ -175,17 +177,6 @@ def build_library(is_proved: bool) -> Dict[str, bytes]:
             ran(["cc", "-shared", "-s", "-o", shared, f"-Wl,-soname,{SONAME}", "-Wl,--whole-archive", archive,
                  "-Wl,--no-whole-archive", f"-Wl,--version-script={exported}", "-Wl,-z,defs", "-Wl,-z,now"])
     return {f"lib{LIBRARY}.a": read(archive), SONAME: read(shared)}
-
-
-def compile_library(is_proved: bool) -> None:
-    """Compiles the crate of the library; if it is proved, over the libraries that the gate left, or over new ones."""
-    if not is_proved:
-        ran(["nice", "-n", "5", f"{ROOT}/tools/build-c", "--unproved"])  # (the programs take longer)
-        return
-    try:
-        ran([f"{ROOT}/tools/build-c"])
-    except Failed:
-        ran(["rt", "lib"], f"{ROOT}/crates/{LIBRARY}")
 
 
 def stamp(name: str, path: str, build: Build) -> bytes:
@@ -210,9 +201,9 @@ def licences_of_kit() -> str:
         for path in sorted(glob.glob(f"{KIT}/rattle/{crate}/LICENSE*")):
             texts.setdefault(read(path).decode("utf-8", "replace").strip(), []).append(crate)
     head = f"The programs and the library have code of these crates of {ran(KIT_VERSION).strip()}: {', '.join(crates)}."
-    parts = [textwrap.fill(head, 79) + "\n\nEach licence is that of the crates that are named above it.\n"]
-    return "\n".join(parts
-                     + [f"{'=' * 79}\n{', '.join(names)}\n{'=' * 79}\n\n{text}\n" for text, names in texts.items()])
+    line = "=" * 79
+    return "\n".join([textwrap.fill(head, 79) + "\n\nEach licence is that of the crates that are named above it.\n",
+                      *(f"{line}\n{', '.join(names)}\n{line}\n\n{text}\n" for text, names in texts.items())])
 
 
 def make_tree(build: Build) -> Tree:
@@ -256,16 +247,15 @@ def shell_files(build: Build, programs: Dict[str, str]) -> Iterator[tuple[str, s
             os.symlink(path, f"{folder}/{name}")
         os.environ["JAGYERTI_PROGRAMS"] = folder
         commands = list(completions.find_commands(make_parser()))
-        helps = {name: completions.ask_help(name) for name in OPTIONED}
-    yield "share/bash-completion/completions/jagyerti", completions.write_bash(commands)
-    yield "share/zsh/site-functions/_jagyerti", completions.write_zsh(commands)
-    yield "share/fish/vendor_completions.d/jagyerti.fish", completions.write_fish(commands)
-    for command in commands:
-        if len(command.words) < 2:
-            name = "-".join(["jagyerti", *command.words])
-            yield f"share/man/man1/{name}.1", man_pages.write(name, command, build.version, build.time)
-    for name, said in helps.items():
-        yield f"share/man/man1/{name}.1", man_pages.write_of_help(name, said, build.version, build.time)
+        yield "share/bash-completion/completions/jagyerti", completions.write_bash(commands)
+        yield "share/zsh/site-functions/_jagyerti", completions.write_zsh(commands)
+        yield "share/fish/vendor_completions.d/jagyerti.fish", completions.write_fish(commands)
+        for name in OPTIONED:
+            page = man_pages.write_of_help(name, completions.ask_help(name), build.version, build.time)
+            yield f"share/man/man1/{name}.1", page
+    for command in (command for command in commands if len(command.words) < 2):
+        name = "-".join(["jagyerti", *command.words])
+        yield f"share/man/man1/{name}.1", man_pages.write(name, command, build.version, build.time)
 
 
 def units(prefix: str) -> Tree:
