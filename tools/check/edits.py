@@ -200,16 +200,13 @@ def told_of(names, texts, told):
     """Returns those of the reasons that are of some functions: of each the file, which has its text here, and the name.
     A reason may stand at an attribute above its function. The proof of a method stands with its type, which may be in
     another module: if there is no reason in the file or beside it, those of all proofs of that name are returned."""
-    lines, folders = set(), []
+    lines = set()
     for path, name in names:
-        folders.append(("proofs/" + (module_of(path) or "").replace("::", "/"), f"/{name}/"))
         for other, _, start, end in functions_in(texts[path]):
             if other == name:
-                first, above = texts[path].count("\n", 0, start) + 1, texts[path][:start].split("\n")[:-1]
-                while above and above[-1].lstrip().startswith("#["):
-                    above.pop()
-                lines |= {(path, line)
-                          for line in range(len(above) + 1, first + texts[path].count("\n", start, end) + 1)}
-    return [it for it in told if (it[0], it[1]) in lines
+                above = re.search(r"(?:^ *#\[.*\n)*\Z", texts[path][:start], re.M)
+                lines |= {(path, texts[path].count("\n", 0, at) + 1) for at in range(above.start(), end)}
+    folders = [("proofs/" + (module_of(path) or "").replace("::", "/"), f"/{name}/") for path, name in names]
+    return [it for it in told if it[:2] in lines
             or any(it[0].startswith(folder) and name in it[0] for folder, name in folders)] or [
         it for it in told if it[0].startswith("proofs/") and any(name in it[0] for _, name in folders)]
