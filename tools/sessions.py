@@ -228,6 +228,14 @@ READS = {"--block <MS>": "For so many milliseconds the server waits for new entr
 UNTIL_EMPTY = {"--until-empty": "It ends with status 0 once a read finds nothing new"}
 WORKER = {"<KEY>": "The stream", "<GROUP>": "The group of consumers", "<CONSUMER>": "The name of the consumer"}
 
+# Words that all workers refuse, after their places.
+OF_WORKERS = """
+not in: --count <ENTRIES>: 1..=10000 | {0} --count '0'
+not one of: --from <ID>: 0, $ | {0} --from '1'
+invalid: --dead <TIMES> <STREAM>: TIMES is a number, 1 at least | {0} --dead '0' dead
+invalid: --dead <TIMES> <STREAM>: STREAM must not be KEY | {0} --dead 3 'k'
+"""
+
 
 # The texts of an entry's fields, and these as JSON; where a name or a value is no UTF-8, its Base64.
 FIELDS = [

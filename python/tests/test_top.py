@@ -273,7 +273,7 @@ class ListenTest(unittest.TestCase):
                 status, kind, text = self.scrape(port)
                 self.assertEqual((status, kind), (200, monitor.OPEN_METRICS))
                 self.assertIn('redis_stream_length{stream="orders"} 1\n', text)
-                self.assertEqual(self.scrape(port, "/")[0], 404)
+                self.assertEqual(self.scrape(port, "/"), (404, monitor.PLAIN, "it is at /metrics\n"))
                 one.process.kill()
                 one.process.wait()
                 status, kind, text = self.scrape(port)
