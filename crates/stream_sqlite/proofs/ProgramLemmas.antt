@@ -2,9 +2,14 @@
 use Rattle.std.proofs.Common.{◌≡◌, ◌<◌, ◌≤◌, ◌⊎◌, [], ℕ, Err, IfOk, IsErr, IsTrue, List, Ok, OnErr, OnOk, Option, Result, ap, arith, false, inl, inr, refl, subst, true, ◌∙◌}
 use Rattle.command_lines.specs.Words.{Text}
 use Rattle.redis_connection.specs.Link.{Link}
+use Rattle.model_server.specs.Group.Worker.{start}
 use Rattle.model_workers.specs.Loops.Loop.{Drains, Loops, Stops}
-use Rattle.worker.specs.Session.{Standing}
+use Rattle.worker.specs.Machine.{machine_of}
+use Rattle.worker.specs.Session.{Standing, standing_of}
+use Rattle.worker.specs.declared.state.Asked.TheVariants.{Nothing}
+use Rattle.worker.specs.declared.state.GroupState.TheVariants.{Unknown}
 use Rattle.worker.specs.declared.state.Settings.{Settings}
+use Rattle.worker.specs.declared.worker.Worker.{Worker}
 use Rattle.worker_table.specs.Forwarded.{forwarding_kept}
 use Rattle.worker_table.specs.Kept.{Kept, kept_by}
 use Rattle.worker_table.specs.Lived.{Leads}
@@ -16,7 +21,7 @@ use Rattle.worker_table.specs.declared.row_table.post.PostedRow.{PostedRow}
 use Rattle.worker_table.specs.declared.row_table.row.Row as memory
 use Rattle.stream_sqlite.specs.Forwards.{Ends, Forwards}
 use Rattle.stream_sqlite.specs.Options.{AreOptionsOf}
-use Rattle.stream_sqlite.specs.Program.{EndsAsSaid, EndsBy, Files, IsRun, Rounds, RoundsAndEnd, RunsAsSaid, RunsBy, SendsAll, SendsSome, first_kept, kept_first, settings_with}
+use Rattle.stream_sqlite.specs.Program.{EndsAsSaid, EndsBy, Files, IsRun, Rounds, RoundsAndEnd, RunsAsSaid, RunsBy, SendsAll, SendsSome, Starts, first_kept, kept_first, settings_with}
 use Rattle.stream_sqlite.specs.declared.options.Options.{Options}
 
 -- ---- the loop
@@ -33,28 +38,48 @@ with_stops settings old new w x a p d is =
     let l = a p d is in
     record { doings = l.doings; told = l.told; leads = inr l.leads; drawn = l.drawn }
 
-module _ {A E : Type 0} (r : Result A E) (settings : Settings) (old new : Link) (w x : Standing Kept) where
-  went_so : Leads (Drains settings) old new w x → IsRun settings Drains w.history old new
-  went_so went = record { first = w; last = x; begins = refl; went = went }
+-- a new worker's run, by its state and that at the end
+module _ {A E : Type 0} (r : Result A E) (settings : Settings) (old new : Link) (worker : Worker) (kept : Kept)
+    (x : Standing Kept) (same : worker.settings ≡ settings) (machine : machine_of worker ≡ start settings.every)
+    (group : worker.group ≡ Unknown) (asked : worker.asked ≡ Nothing) where
+  abbrev w : Standing Kept
+  w = standing_of worker kept
 
-  pub ends_so : OnOk r (Leads (Loops settings) old new w x) → OnOk r (IsRun settings Loops w.history old new)
-  ends_so = elim r as (λ r. OnOk r (Leads (Loops settings) old new w x) → OnOk r (IsRun settings Loops w.history old new)) [
-    | Ok a ↦ λ went. record { first = w; last = x; begins = refl; went = went }
-    | Err e ↦ λ went. tt
-  ]
+  starts : Starts settings kept w
+  starts = record { machine = machine; group = group; asked = asked; begins = refl }
 
-  pub stops_so : OnErr r (Leads (Stops settings) old new w x) → OnErr r (IsRun settings Drains w.history old new)
-  stops_so = elim r as (λ r. OnErr r (Leads (Stops settings) old new w x)
-      → OnErr r (IsRun settings Drains w.history old new))
-      [ Ok a ↦ λ stops. tt | Err e ↦ λ stops. went_so (with_stops settings old new w x stops) ]
+  went_so : Leads (Drains worker.settings) old new w x → IsRun settings Drains kept old new
+  went_so went = record {
+    first = w;
+    last = x;
+    starts = starts;
+    went = subst (λ (s : Settings). Leads (Drains s) old new w x) same went;
+  }
+
+  pub ends_so : OnOk r (Leads (Loops worker.settings) old new w x) → OnOk r (IsRun settings Loops kept old new)
+  ends_so = elim r as (λ r. OnOk r (Leads (Loops worker.settings) old new w x)
+      → OnOk r (IsRun settings Loops kept old new)) [
+        | Ok a ↦ λ went. record {
+          first = w;
+          last = x;
+          starts = starts;
+          went = subst (λ (s : Settings). Leads (Loops s) old new w x) same went;
+        }
+        | Err e ↦ λ went. tt
+      ]
+
+  pub stops_so : OnErr r (Leads (Stops worker.settings) old new w x) → OnErr r (IsRun settings Drains kept old new)
+  stops_so = elim r as (λ r. OnErr r (Leads (Stops worker.settings) old new w x)
+      → OnErr r (IsRun settings Drains kept old new))
+      [ Ok a ↦ λ stops. tt | Err e ↦ λ stops. went_so (with_stops worker.settings old new w x stops) ]
 
   -- however it ended, the rounds went so
-  pub either_way : OnOk r (Leads (Loops settings) old new w x) → OnErr r (Leads (Stops settings) old new w x)
-      → IsRun settings Drains w.history old new
-  either_way = elim r as (λ r. OnOk r (Leads (Loops settings) old new w x) → OnErr r (Leads (Stops settings) old new w x)
-      → IsRun settings Drains w.history old new) [
-        | Ok a ↦ λ loops stops. went_so (with_loops settings old new w x loops)
-        | Err e ↦ λ loops stops. went_so (with_stops settings old new w x stops)
+  pub either_way : OnOk r (Leads (Loops worker.settings) old new w x)
+      → OnErr r (Leads (Stops worker.settings) old new w x) → IsRun settings Drains kept old new
+  either_way = elim r as (λ r. OnOk r (Leads (Loops worker.settings) old new w x)
+      → OnErr r (Leads (Stops worker.settings) old new w x) → IsRun settings Drains kept old new) [
+        | Ok a ↦ λ loops stops. went_so (with_loops worker.settings old new w x loops)
+        | Err e ↦ λ loops stops. went_so (with_stops worker.settings old new w x stops)
       ]
 
 pub run_drains : (settings : Settings) (kept : Kept) (old new : Link) → IsRun settings Loops kept old new
@@ -62,7 +87,7 @@ pub run_drains : (settings : Settings) (kept : Kept) (old new : Link) → IsRun 
 run_drains settings kept old new run = record {
   first = run.first;
   last = run.last;
-  begins = run.begins;
+  starts = run.starts;
   went = with_loops settings old new run.first run.last run.went;
 }
 
@@ -74,27 +99,52 @@ forwards_ends : (settings : Settings) (old new : Link) (s t : Option Stored) (w 
 forwards_ends settings old new s t w x went =
     record { between = new; known = t; stands = x; forwards = went; ends = inr refl }
 
+-- the same of a worker that forwards entries
 module _ {A E : Type 0} (r : Result A E) (settings : Settings) (old new : Link) (s t : Option Stored)
-    (w x : Standing Kept) (rows : rows_known s ≡ w.history.committed) where
-  some_so : Ends settings old new s w x → SendsSome settings w.history old new
-  some_so went = record { stored = s; first = w; last = x; rows = rows; begins = refl; went = went }
+    (worker : Worker) (kept : Kept) (x : Standing Kept) (rows : rows_known s ≡ kept.committed)
+    (same : worker.settings ≡ settings) (machine : machine_of worker ≡ start settings.every)
+    (group : worker.group ≡ Unknown) (asked : worker.asked ≡ Nothing) where
+  abbrev v : Standing Kept
+  v = standing_of worker kept
 
-  pub all_sent : OnOk r (Forwards settings old s w new t x) → OnOk r (SendsAll settings w.history old new)
-  all_sent = elim r as (λ r. OnOk r (Forwards settings old s w new t x) → OnOk r (SendsAll settings w.history old new)) [
-    | Ok a ↦ λ went. record { stored = s; left = t; first = w; last = x; rows = rows; begins = refl; went = went }
-    | Err e ↦ λ went. tt
-  ]
+  begun : Starts settings kept v
+  begun = record { machine = machine; group = group; asked = asked; begins = refl }
 
-  pub some_sent : OnErr r (Ends settings old new s w x) → OnErr r (SendsSome settings w.history old new)
-  some_sent = elim r as (λ r. OnErr r (Ends settings old new s w x) → OnErr r (SendsSome settings w.history old new))
+  some_so : Ends worker.settings old new s v x → SendsSome settings kept old new
+  some_so went = record {
+    stored = s;
+    first = v;
+    last = x;
+    rows = rows;
+    starts = begun;
+    went = subst (λ (y : Settings). Ends y old new s v x) same went;
+  }
+
+  pub all_sent : OnOk r (Forwards worker.settings old s v new t x) → OnOk r (SendsAll settings kept old new)
+  all_sent = elim r as (λ r. OnOk r (Forwards worker.settings old s v new t x)
+      → OnOk r (SendsAll settings kept old new)) [
+        | Ok a ↦ λ went. record {
+          stored = s;
+          left = t;
+          first = v;
+          last = x;
+          rows = rows;
+          starts = begun;
+          went = subst (λ (y : Settings). Forwards y old s v new t x) same went;
+        }
+        | Err e ↦ λ went. tt
+      ]
+
+  pub some_sent : OnErr r (Ends worker.settings old new s v x) → OnErr r (SendsSome settings kept old new)
+  some_sent = elim r as (λ r. OnErr r (Ends worker.settings old new s v x) → OnErr r (SendsSome settings kept old new))
       [ Ok a ↦ λ went. tt | Err e ↦ λ went. some_so went ]
 
   -- however it ended, this was sent
-  pub sent_either_way : OnOk r (Forwards settings old s w new t x) → OnErr r (Ends settings old new s w x)
-      → SendsSome settings w.history old new
-  sent_either_way = elim r as (λ r. OnOk r (Forwards settings old s w new t x) → OnErr r (Ends settings old new s w x)
-      → SendsSome settings w.history old new) [
-        | Ok a ↦ λ went ended. some_so (forwards_ends settings old new s t w x went)
+  pub sent_either_way : OnOk r (Forwards worker.settings old s v new t x)
+      → OnErr r (Ends worker.settings old new s v x) → SendsSome settings kept old new
+  sent_either_way = elim r as (λ r. OnOk r (Forwards worker.settings old s v new t x)
+      → OnErr r (Ends worker.settings old new s v x) → SendsSome settings kept old new) [
+        | Ok a ↦ λ went ended. some_so (forwards_ends worker.settings old new s t v x went)
         | Err e ↦ λ went ended. some_so ended
       ]
 
@@ -105,7 +155,7 @@ all_are_some settings kept old new all = record {
   first = all.first;
   last = all.last;
   rows = all.rows;
-  begins = all.begins;
+  starts = all.starts;
   went = forwards_ends settings old new all.stored all.left all.first all.last all.went;
 }
 

@@ -3,6 +3,7 @@ use Rattle.std.specs.Prelude.{◌≡◌, [], ℕ, IsTrue, List, None, Option, So
 use Rattle.std.specs.declared.alloc.Global.{Global}
 use Rattle.command_lines.specs.Words.{Text}
 use Rattle.redis_connection.specs.Link.{Link}
+use Rattle.model_server.specs.Group.Worker.{start}
 use Rattle.model_workers.specs.Loops.Loop.{Drains, Loops}
 use Rattle.model_workers.specs.Loops.Shown.{Way}
 use Rattle.worker.specs.Session.{Standing}
@@ -10,6 +11,8 @@ use Rattle.worker.specs.DeadLetters.Dead.{IsCounted, IsSearched, Searcher, searc
 use Rattle.worker.specs.declared.dead_letters.search.DeadLetterSearch.{DeadLetterSearch}
 use Rattle.worker.specs.declared.dead_letters.search.GiveUp.{GiveUp}
 use Rattle.worker.specs.declared.state.Asked.{Asked}
+use Rattle.worker.specs.declared.state.Asked.TheVariants.{Nothing}
+use Rattle.worker.specs.declared.state.GroupState.TheVariants.{Unknown}
 use Rattle.worker.specs.declared.state.Settings.{Settings}
 use Rattle.worker_table.specs.Kept.{Kept}
 use Rattle.worker_table.specs.Lived.{Leads}
@@ -46,30 +49,37 @@ abbrev pub SearchesAfter : DeadLetterSearch → Asked → Link → Link → Type
 SearchesAfter d asked old new =
     (reads : ℕ) × IsCounted d.reads asked reads × IsSearched (searcher_of d) d.begun reads old new
 
--- a worker with these settings, whose handler began with `kept`, made the rounds of `way` over the connection
+-- the state of a new worker with these settings, whose handler begins with `kept`: it acknowledges nothing first
+pub record Starts (settings : Settings) (kept : Kept) (first : Standing Kept) : Type 0 where
+  pub machine : first.machine ≡ start settings.every
+  pub group : first.group ≡ Unknown
+  pub asked : first.asked ≡ Nothing
+  pub begins : first.history ≡ kept
+
+-- a new worker with these settings, whose handler began with `kept`, made the rounds of `way` over the connection
 pub record IsRun (settings : Settings) (way : Settings → Way) (kept : Kept) (old new : Link) : Type 0 where
   pub first : Standing Kept
   pub last : Standing Kept
-  pub begins : first.history ≡ kept
+  pub starts : Starts settings kept first
   pub went : Leads (way settings) old new first last
 
--- a worker that forwards entries, whose handler began with `kept`, made complete rounds over the connection
+-- a new worker that forwards entries, whose handler began with `kept`, made complete rounds over the connection
 pub record SendsAll (settings : Settings) (kept : Kept) (old new : Link) : Type 0 where
   pub stored : Option Stored
   pub left : Option Stored
   pub first : Standing Kept
   pub last : Standing Kept
   pub rows : rows_known stored ≡ kept.committed
-  pub begins : first.history ≡ kept
+  pub starts : Starts settings kept first
   pub went : Forwards settings old stored first new left last
 
--- a worker that forwards entries, whose handler began with `kept`, made rounds and ended as in `Ends`
+-- a new worker that forwards entries, whose handler began with `kept`, made rounds and ended as in `Ends`
 pub record SendsSome (settings : Settings) (kept : Kept) (old new : Link) : Type 0 where
   pub stored : Option Stored
   pub first : Standing Kept
   pub last : Standing Kept
   pub rows : rows_known stored ≡ kept.committed
-  pub begins : first.history ≡ kept
+  pub starts : Starts settings kept first
   pub went : Ends settings old new stored first last
 
 -- the rows of a table, given the path of its file and its name, if the rows are known

@@ -273,9 +273,9 @@ fn drain_over<R: Read + Drop, W: Write + Drop, T: Table + Drop, P: Eprint + Allo
         ⊎ IsRun (settings_with work.dead work.settings) Drains
         (⟦<Rows<T> as Handler>⟧.history rows.old) connection.old connection.new) }
 {
-    let mut run = begin_run(rt.alloc(), work)?;
+    let run = begin_run(rt.alloc(), work)?;
     rows.leave_unfit(run.dead.is_some());
-    make_run(rt, connection, rows, &mut run)
+    make_run(rt, connection, rows, run)
 }
 
 /// Drains over the connection, forwards the entries, and prints the counts.
@@ -292,15 +292,16 @@ fn forward_over<R: Read + Drop, W: Write + Drop, T: WithOutbox + Drop, P: Eprint
         ⊎ SendsSome (settings_with work.dead work.settings)
         (⟦<Forwarding<T> as Handler>⟧.history rows.old) connection.old connection.new) }
 {
-    let mut run = begin_run(rt.alloc(), work)?;
+    let run = begin_run(rt.alloc(), work)?;
     rows.leave_unfit(run.dead.is_some());
-    make_run_forwarding(rt, connection, rows, &mut run)
+    make_run_forwarding(rt, connection, rows, run)
 }
 
 /// A run of the program before its first command.
 #[derive(Drop)]
 struct Run {
-    worker: Worker,
+    /// The settings of its worker.
+    settings: Settings,
     counts: Counts,
     dead: Option<DeadLetterSearch>,
     until_empty: bool,
@@ -308,7 +309,7 @@ struct Run {
 
 /// Creates a run for this work.
 fn begin_run(alloc: Global, work: Work) -> Result<Run>
-    ensures settings { IfOk result (λ run. run.worker.settings ≡ settings_with work.dead work.settings) }
+    ensures settings { IfOk result (λ run. run.settings ≡ settings_with work.dead work.settings) }
     ensures until_empty { IfOk result (λ run. run.until_empty ≡ work.until_empty) }
     ensures dead { IfOk result (λ run. option_map searcher_of run.dead
         ≡ option_map (searcher_by work.settings) work.dead) }
@@ -316,7 +317,7 @@ fn begin_run(alloc: Global, work: Work) -> Result<Run>
     let mut settings = work.settings;
     let dead = make_search(alloc, &mut settings, work.dead)?;
     Ok(Run {
-        worker: Worker::new(alloc, settings),
+        settings,
         counts: Counts::new(),
         dead,
         until_empty: work.until_empty,
@@ -345,25 +346,32 @@ fn make_run<R: Read + Drop, W: Write + Drop, T: Table + Drop, P: Eprint + AllocG
     rt: &P,
     connection: &mut Connection<R, W>,
     rows: &mut Rows<T>,
-    run: &mut Run,
+    run: Run,
 ) -> Result<Drained>
-    ensures ended { IfOk result (λ _. IsTrue run.old.until_empty) }
-    ensures ok { OnOk result (IsRun run.old.worker.settings Loops
+    ensures ended { IfOk result (λ _. IsTrue run.until_empty) }
+    ensures ok { OnOk result (IsRun run.settings Loops
         (⟦<Rows<T> as Handler>⟧.history rows.old) connection.old connection.new) }
-    ensures err { OnErr result (IsRun run.old.worker.settings Drains
+    ensures err { OnErr result (IsRun run.settings Drains
         (⟦<Rows<T> as Handler>⟧.history rows.old) connection.old connection.new) }
 {
+    let Run {
+        settings,
+        mut counts,
+        mut dead,
+        until_empty,
+    } = run;
+    let mut worker = Worker::new(rt.alloc(), settings);
     let ended = drain(
         rt,
         connection,
-        &mut run.worker,
+        &mut worker,
         rows,
-        &mut run.counts,
-        &mut run.dead,
-        run.until_empty,
+        &mut counts,
+        &mut dead,
+        until_empty,
     );
-    run.counts.letters = count_letters(&run.dead);
-    show_counts(rt, &run.counts)?;
+    counts.letters = count_letters(&dead);
+    show_counts(rt, &counts)?;
     ended
 }
 
@@ -373,29 +381,31 @@ fn make_run_forwarding<
     W: Write + Drop,
     T: WithOutbox + Drop,
     P: Eprint + AllocGlobal,
->(
-    rt: &P,
-    connection: &mut Connection<R, W>,
-    rows: &mut Forwarding<T>,
-    run: &mut Run,
-) -> Result<Drained>
-    ensures ended { IfOk result (λ _. IsTrue run.old.until_empty) }
-    ensures ok { OnOk result (SendsAll run.old.worker.settings
+>(rt: &P, connection: &mut Connection<R, W>, rows: &mut Forwarding<T>, run: Run) -> Result<Drained>
+    ensures ended { IfOk result (λ _. IsTrue run.until_empty) }
+    ensures ok { OnOk result (SendsAll run.settings
         (⟦<Forwarding<T> as Handler>⟧.history rows.old) connection.old connection.new) }
-    ensures err { OnErr result (SendsSome run.old.worker.settings
+    ensures err { OnErr result (SendsSome run.settings
         (⟦<Forwarding<T> as Handler>⟧.history rows.old) connection.old connection.new) }
 {
+    let Run {
+        settings,
+        mut counts,
+        mut dead,
+        until_empty,
+    } = run;
+    let mut forwarder = Worker::new(rt.alloc(), settings);
     let ended = forward(
         rt,
         connection,
-        &mut run.worker,
+        &mut forwarder,
         rows,
-        &mut run.counts,
-        &mut run.dead,
-        run.until_empty,
+        &mut counts,
+        &mut dead,
+        until_empty,
     );
-    run.counts.letters = count_letters(&run.dead);
-    show_sent(rt, &run.counts, rows.sent)?;
+    counts.letters = count_letters(&dead);
+    show_sent(rt, &counts, rows.sent)?;
     ended
 }
 

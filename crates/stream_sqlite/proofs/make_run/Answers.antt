@@ -17,18 +17,22 @@ pub returns-clause-ok : goal.returns-clause-ok
 returns-clause-ok g c =
     let before = c.args.rows.now in
     let after = c.drain-ended.new.rows in
-    ends_so c.drain-ended.result c.args.run.now.worker.settings c.args.connection.now c.drain-ended.new.connection
-    (stands c.args.run.now.worker before.columns.items before.loose.items (g.T.Table.committed before.table))
+    ends_so c.drain-ended.result c.args.run.settings c.args.connection.now c.drain-ended.new.connection
+    c.new-worker.result
+    (kept_by before.columns.items before.loose.items (g.T.Table.committed before.table))
     (stands c.drain-ended.new.worker after.columns.items after.loose.items (g.T.Table.committed after.table))
+    c.new-worker.ensures.settings c.new-worker.ensures.machine c.new-worker.ensures.group c.new-worker.ensures.asked
     c.drain-ended.ensures.ok
 
 pub returns-clause-err : goal.returns-clause-err
 returns-clause-err g c =
     let before = c.args.rows.now in
     let after = c.drain-ended.new.rows in
-    stops_so c.drain-ended.result c.args.run.now.worker.settings c.args.connection.now c.drain-ended.new.connection
-    (stands c.args.run.now.worker before.columns.items before.loose.items (g.T.Table.committed before.table))
+    stops_so c.drain-ended.result c.args.run.settings c.args.connection.now c.drain-ended.new.connection
+    c.new-worker.result
+    (kept_by before.columns.items before.loose.items (g.T.Table.committed before.table))
     (stands c.drain-ended.new.worker after.columns.items after.loose.items (g.T.Table.committed after.table))
+    c.new-worker.ensures.settings c.new-worker.ensures.machine c.new-worker.ensures.group c.new-worker.ensures.asked
     c.drain-ended.ensures.err
 
 pub returns-in_err-show_counts-clause-err : goal.returns-in_err-show_counts-clause-err
@@ -36,7 +40,9 @@ returns-in_err-show_counts-clause-err g c =
     let before = c.args.rows.now in
     let after = c.drain-ended.new.rows in
     on_err c.from_residual.result
-    (either_way c.drain-ended.result c.args.run.now.worker.settings c.args.connection.now c.drain-ended.new.connection
-    (stands c.args.run.now.worker before.columns.items before.loose.items (g.T.Table.committed before.table))
+    (either_way c.drain-ended.result c.args.run.settings c.args.connection.now c.drain-ended.new.connection
+    c.new-worker.result
+    (kept_by before.columns.items before.loose.items (g.T.Table.committed before.table))
     (stands c.drain-ended.new.worker after.columns.items after.loose.items (g.T.Table.committed after.table))
+    c.new-worker.ensures.settings c.new-worker.ensures.machine c.new-worker.ensures.group c.new-worker.ensures.asked
     c.drain-ended.ensures.ok c.drain-ended.ensures.err)

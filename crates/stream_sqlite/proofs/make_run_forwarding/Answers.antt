@@ -21,10 +21,12 @@ returns-clause-ok g c =
     let after = c.forward-ended.new.rows in
     let first = g.T.WithOutbox.committed before.table in
     let last = g.T.WithOutbox.committed after.table in
-    all_sent c.forward-ended.result c.args.run.now.worker.settings c.args.connection.now
+    all_sent c.forward-ended.result c.args.run.settings c.args.connection.now
     c.forward-ended.new.connection first last
-    (stands c.args.run.now.worker before.columns.items before.loose.items first)
-    (stands c.forward-ended.new.worker after.columns.items after.loose.items last) refl c.forward-ended.ensures.ok
+    c.new-forwarder.result
+    (forwarding_kept before.columns.items (all_posted before.loose.items) first)
+    (stands c.forward-ended.new.worker after.columns.items after.loose.items last) refl
+    c.new-forwarder.ensures.settings c.new-forwarder.ensures.machine c.new-forwarder.ensures.group c.new-forwarder.ensures.asked c.forward-ended.ensures.ok
 
 pub returns-clause-err : goal.returns-clause-err
 returns-clause-err g c =
@@ -32,10 +34,12 @@ returns-clause-err g c =
     let after = c.forward-ended.new.rows in
     let first = g.T.WithOutbox.committed before.table in
     let last = g.T.WithOutbox.committed after.table in
-    some_sent c.forward-ended.result c.args.run.now.worker.settings c.args.connection.now
+    some_sent c.forward-ended.result c.args.run.settings c.args.connection.now
     c.forward-ended.new.connection first last
-    (stands c.args.run.now.worker before.columns.items before.loose.items first)
-    (stands c.forward-ended.new.worker after.columns.items after.loose.items last) refl c.forward-ended.ensures.err
+    c.new-forwarder.result
+    (forwarding_kept before.columns.items (all_posted before.loose.items) first)
+    (stands c.forward-ended.new.worker after.columns.items after.loose.items last) refl
+    c.new-forwarder.ensures.settings c.new-forwarder.ensures.machine c.new-forwarder.ensures.group c.new-forwarder.ensures.asked c.forward-ended.ensures.err
 
 pub returns-in_err-show_sent-clause-err : goal.returns-in_err-show_sent-clause-err
 returns-in_err-show_sent-clause-err g c =
@@ -44,8 +48,10 @@ returns-in_err-show_sent-clause-err g c =
     let first = g.T.WithOutbox.committed before.table in
     let last = g.T.WithOutbox.committed after.table in
     on_err c.from_residual.result
-    (sent_either_way c.forward-ended.result c.args.run.now.worker.settings c.args.connection.now
+    (sent_either_way c.forward-ended.result c.args.run.settings c.args.connection.now
     c.forward-ended.new.connection first last
-    (stands c.args.run.now.worker before.columns.items before.loose.items first)
-    (stands c.forward-ended.new.worker after.columns.items after.loose.items last) refl c.forward-ended.ensures.ok
+    c.new-forwarder.result
+    (forwarding_kept before.columns.items (all_posted before.loose.items) first)
+    (stands c.forward-ended.new.worker after.columns.items after.loose.items last) refl
+    c.new-forwarder.ensures.settings c.new-forwarder.ensures.machine c.new-forwarder.ensures.group c.new-forwarder.ensures.asked c.forward-ended.ensures.ok
     c.forward-ended.ensures.err)
