@@ -1,8 +1,8 @@
 //! Finds the places of rows: entries with their fields.
-ghost use Rattle.std.specs.Prelude.{◌≡◌, ◌≤◌, ◌+◌, ◌++◌, ℕ, Bool, List, Option, IfOk, IfSome, IsOk, IsSomeAnd, IsTrue};
-ghost use Rattle.std.specs.Prelude.{drop, flat_map, length, true};
+ghost use Rattle.std.specs.Prelude.{◌≡◌, ◌≤◌, ◌<◌, ◌+◌, ◌++◌, ℕ, Bool, List, Option, IfOk, IfSome, IsOk, IsSomeAnd, IsTrue};
+ghost use Rattle.std.specs.Prelude.{drop, flat_map, length, slice_index, true};
 ghost use Rattle.std.specs.List.{AllByRecursion};
-ghost use Rattle.std.specs.Str.{is_utf8};
+ghost use Rattle.std.specs.Str.{is_utf8, IsAscii};
 ghost use Rattle.redis_wire.specs.Place.{text_in, IsSpan, IsTextAt, BeginsWithText, EndsBefore};
 ghost use Rattle.stream_in_place.specs.Added.{row_count, FieldsAdded, OwnAdded, IsDeliveryAt, EntryAdded, EntriesAdded};
 ghost use Rattle.stream_in_place.specs.Forms.{is_claim};
@@ -16,6 +16,7 @@ use crate::places::{EntryPlace, Places};
 use crate::short::{bulk_at, count_at, field_at};
 use redis_wire::Limits;
 use redis_wire::place::{Span, int_at, nil_at};
+use std::simd::prelude::*;
 
 /// The text at that place.
 #[inline(always)]
@@ -26,11 +27,35 @@ pub fn text_in(bytes: &[u8], span: Span) -> &[u8]
     &bytes[span.start..span.start + span.len]
 }
 
+/// Whether the eight bytes at offset `at` are ASCII, in one comparison.
+#[inline(always)]
+fn are_ascii_at(bytes: &[u8], at: usize) -> bool
+    requires { at + 8 ≤ length bytes.now }
+    ensures { result ≡ true → (i : ℕ) → at ≤ i → i < at + 8 → slice_index bytes.now i < 128 }
+{
+    u8x8::from_slice(&bytes[at..])
+        .simd_ge(u8x8::splat(0x80))
+        .to_bitmask()
+        == 0
+}
+
+/// Whether all bytes are ASCII. Nearly every id has 8 to 24 bytes: its first and last eight, and those between them.
+#[inline(always)]
+fn is_ascii(bytes: &[u8]) -> bool
+    ensures { result ≡ true → IsAscii bytes.now }
+{
+    let len = bytes.len();
+    if len < 8 || len > 24 {
+        return bytes.is_ascii();
+    }
+    are_ascii_at(bytes, 0) && are_ascii_at(bytes, len - 8) && (len <= 16 || are_ascii_at(bytes, 8))
+}
+
 /// Whether the bytes are UTF-8.
 pub fn is_text(bytes: &[u8]) -> bool
     ensures { result ≡ is_utf8 bytes.now }
 {
-    if bytes.is_ascii() {
+    if is_ascii(bytes) {
         return true;
     }
     match str::from_utf8(bytes) {

@@ -1,5 +1,7 @@
 //! Finds short bulk strings and short array headers, the usual case, in few steps.
-ghost use Rattle.std.specs.Prelude.{◌≡◌, ◌≤◌, ◌+◌, ◌∷◌, ℕ, List, IfSome, IsSomeAnd, Some, drop, length, true};
+ghost use Rattle.std.specs.Int.{IsInRange};
+ghost use Rattle.std.specs.Prelude.{◌≡◌, ◌≤◌, ◌+◌, ◌-◌, ◌*◌, ◌∷◌, ℕ, List, IfSome, IsSomeAnd, Some, drop, length};
+ghost use Rattle.std.specs.Prelude.{slice_index, true};
 ghost use Rattle.redis_wire.specs.Place.{text_in, IsHeadAt, IsTextAt, IsArrayAt, BeginsWithHead, BeginsWithText};
 ghost use Rattle.redis_wire.specs.Place.{BeginsWithArray, EndsBefore};
 ghost use Rattle.stream_in_place.specs.Added.{IsFieldAt};
@@ -7,6 +9,7 @@ ghost use Rattle.stream_in_place.specs.Added.{IsFieldAt};
 use crate::places::FieldPlace;
 use redis_wire::Limits;
 use redis_wire::place::{Span, array_at, text_at};
+use std::simd::prelude::*;
 
 /// Whether the bytes are CR and LF, in one comparison.
 #[inline(always)]
@@ -25,6 +28,37 @@ fn is_crlf_at(bytes: &[u8], at: usize) -> bool
     is_crlf(bytes[at], bytes[at + 1])
 }
 
+/// Returns the first four bytes as one number, as `u32::from_le_bytes`.
+#[inline(always)]
+fn first_word(bytes: &[u8]) -> u32
+    requires { 4 ≤ length bytes.now }
+    ensures { result ≡ slice_index bytes.now 0 + 256 * (slice_index bytes.now 1
+        + 256 * (slice_index bytes.now 2 + 256 * slice_index bytes.now 3)) }
+{
+    let [word] = u32x1::from_le_bytes(u8x4::from_slice(bytes)).to_array();
+    word
+}
+
+/// Returns the digit between the byte `first` and CR LF, if these four are at the start of the bytes. With `first`
+/// last, `0` CR LF to `9` CR LF are ten numbers in a row, so one comparison looks at all four.
+#[inline(always)]
+fn find_digit(bytes: &[u8], first: u8) -> Option<u32>
+    requires { 4 ≤ length bytes.now }
+    ensures kind { IfSome result (λ _. slice_index bytes.now 0 ≡ first) }
+    ensures digit { IfSome result (λ _. IsInRange 48 57 (slice_index bytes.now 1)) }
+    ensures cr { IfSome result (λ _. slice_index bytes.now 2 ≡ 13) }
+    ensures lf { IfSome result (λ _. slice_index bytes.now 3 ≡ 10) }
+    ensures is { IfSome result (λ n. n ≡ slice_index bytes.now 1 - 48) }
+{
+    let word = first_word(bytes);
+    let turned = word / 0x100 + word % 0x100 * 0x100_0000;
+    let zero = u32::from_le_bytes([b'0', b'\r', b'\n', first]);
+    if turned < zero || turned > zero + 9 {
+        return None;
+    }
+    Some(turned - zero)
+}
+
 /// The length after the first byte of a value, if it is one digit.
 #[inline(always)]
 fn one_digit_at(limits: Limits, bytes: &[u8], first: u8) -> Option<u32>
@@ -34,11 +68,8 @@ fn one_digit_at(limits: Limits, bytes: &[u8], first: u8) -> Option<u32>
     ensures head { IfSome result (λ n. BeginsWithHead limits bytes.now first (Some n) (drop 4 bytes.now)) }
     ensures small { IfSome result (λ n. n ≤ 99) }
 {
-    let digit = bytes[1];
-    if bytes[0] != first || !is_crlf(bytes[2], bytes[3]) || !digit.is_ascii_digit() {
-        return None;
-    }
-    Some((digit - b'0') as u32)
+    let digit = find_digit(bytes, first)?;
+    Some(digit)
 }
 
 /// The length after the first byte of a value, if it is two digits.
