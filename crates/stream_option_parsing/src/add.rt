@@ -8,11 +8,11 @@ ghost use Rattle.stream_options.specs.View.{strategy_of, policy_of, idempotency_
 ghost use Rattle.stream_option_parsing.specs.Parts.{add_of};
 ghost use Rattle.stream_option_parsing.specs.Split.{arguments, IsOneSplit, HasNoSplit, Gives};
 
-use crate::clauses::flag_clause;
+use crate::clauses::parse_flag_clause;
 use crate::error::SentenceError;
-use crate::policy::policy_clause;
-use crate::strategy::strategy_at;
-use crate::values::{begins_with, text_in};
+use crate::policy::parse_policy_clause;
+use crate::strategy::parse_strategy;
+use crate::values::{begins_with, parse_text};
 use std::alloc::Global;
 use stream_options::{
     StreamAddOptions, StreamDeletionPolicy, StreamIdempotencyMode, StreamTrimStrategy,
@@ -64,7 +64,7 @@ pub fn read_add_parts(alloc: Global, args: &[Vec<u8>]) -> Result<(AddParts, usiz
     ensures none { IfErr result (λ e. e ≡ SentenceError.NotASentence
         → HasNoSplit AddFits add_sentence add_words (arguments args.now)) }
 {
-    let (parts, rest) = add_at(alloc, args)?;
+    let (parts, rest) = parse_add(alloc, args)?;
     let words = [
         "NOMKSTREAM",
         "KEEPREF",
@@ -85,15 +85,15 @@ pub fn read_add_parts(alloc: Global, args: &[Vec<u8>]) -> Result<(AddParts, usiz
 }
 
 /// The settings, and the arguments after them.
-fn add_at(alloc: Global, args: &[Vec<u8>]) -> Result<(AddParts, &[Vec<u8>]), SentenceError>
+fn parse_add(alloc: Global, args: &[Vec<u8>]) -> Result<(AddParts, &[Vec<u8>]), SentenceError>
     ensures { Gives (λ x. (add_of x.0, arguments x.1.now)) result (reading.add_at (arguments args.now)) }
 {
-    let Some((nomkstream, rest)) = flag_clause("NOMKSTREAM", args) else {
+    let Some((nomkstream, rest)) = parse_flag_clause("NOMKSTREAM", args) else {
         return Err(SentenceError::NotASentence);
     };
-    let (policy, rest) = policy_clause(rest);
-    let (idempotency, rest) = idempotency_clause(alloc, rest)?;
-    let (strategy, rest) = strategy_clause(alloc, rest)?;
+    let (policy, rest) = parse_policy_clause(rest);
+    let (idempotency, rest) = parse_idempotency_clause(alloc, rest)?;
+    let (strategy, rest) = parse_strategy_clause(alloc, rest)?;
     let parts = AddParts {
         nomkstream,
         policy,
@@ -104,7 +104,7 @@ fn add_at(alloc: Global, args: &[Vec<u8>]) -> Result<(AddParts, &[Vec<u8>]), Sen
 }
 
 /// `[idempotency]`, and the arguments after it.
-fn idempotency_clause(
+fn parse_idempotency_clause(
     alloc: Global,
     args: &[Vec<u8>],
 ) -> Result<(Option<StreamIdempotencyMode>, &[Vec<u8>]), SentenceError>
@@ -114,12 +114,12 @@ fn idempotency_clause(
     if !begins_with(&["IDMP", "IDMPAUTO"], args) {
         return Ok((None, args));
     }
-    let (mode, rest) = idempotency_at(alloc, args)?;
+    let (mode, rest) = parse_idempotency(alloc, args)?;
     Ok((Some(mode), rest))
 }
 
 /// `IDMP producer idempotent` or `IDMPAUTO producer`, and the arguments after it.
-fn idempotency_at(
+fn parse_idempotency(
     alloc: Global,
     args: &[Vec<u8>],
 ) -> Result<(StreamIdempotencyMode, &[Vec<u8>]), SentenceError>
@@ -131,7 +131,7 @@ fn idempotency_at(
         [_word] => Err(SentenceError::NotASentence),
         [word, producer] => {
             if word.as_slice() == b"IDMPAUTO".as_slice() {
-                let producer_id = text_in(alloc, producer)?;
+                let producer_id = parse_text(alloc, producer)?;
                 Ok((StreamIdempotencyMode::Automatic { producer_id }, &[]))
             } else {
                 Err(SentenceError::NotASentence)
@@ -139,11 +139,11 @@ fn idempotency_at(
         }
         [word, producer, idempotent, rest @ ..] => {
             if word.as_slice() == b"IDMPAUTO".as_slice() {
-                let producer_id = text_in(alloc, producer)?;
+                let producer_id = parse_text(alloc, producer)?;
                 Ok((StreamIdempotencyMode::Automatic { producer_id }, &args[2..]))
             } else if word.as_slice() == b"IDMP".as_slice() {
-                let producer_id = text_in(alloc, producer)?;
-                let idempotent_id = text_in(alloc, idempotent)?;
+                let producer_id = parse_text(alloc, producer)?;
+                let idempotent_id = parse_text(alloc, idempotent)?;
                 let mode = StreamIdempotencyMode::Manual {
                     producer_id,
                     idempotent_id,
@@ -157,7 +157,7 @@ fn idempotency_at(
 }
 
 /// `[strategy]`, and the arguments after it.
-fn strategy_clause(
+fn parse_strategy_clause(
     alloc: Global,
     args: &[Vec<u8>],
 ) -> Result<(Option<StreamTrimStrategy>, &[Vec<u8>]), SentenceError>
@@ -167,7 +167,7 @@ fn strategy_clause(
     if !begins_with(&["MAXLEN", "MINID", "LIMIT", "=", "~"], args) {
         return Ok((None, args));
     }
-    let (strategy, rest) = strategy_at(alloc, args)?;
+    let (strategy, rest) = parse_strategy(alloc, args)?;
     Ok((Some(strategy), rest))
 }
 

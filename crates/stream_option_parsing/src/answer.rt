@@ -68,26 +68,26 @@ fn reply_to(alloc: Global, word: &[u8], args: &[Vec<u8>]) -> Result<Reply, RunEr
     ensures known { OnErr result (type_of word.now ≢ None) }
 {
     if word == b"trim".as_slice() {
-        reply_of_reading(read_trim(alloc, args))
+        reply_to_reading(read_trim(alloc, args))
     } else if word == b"add".as_slice() {
-        reply_of_reading(read_add(alloc, args))
+        reply_to_reading(read_add(alloc, args))
     } else if word == b"config".as_slice() {
-        reply_of_reading(read_config(args))
+        reply_to_reading(read_config(args))
     } else if word == b"autoclaim".as_slice() {
-        reply_of_reading(read_autoclaim(args))
+        reply_to_reading(read_autoclaim(args))
     } else if word == b"claim".as_slice() {
-        reply_of_reading(read_claim(alloc, args))
+        reply_to_reading(read_claim(alloc, args))
     } else if word == b"read".as_slice() {
-        reply_of_reading(read_read(alloc, args))
+        reply_to_reading(read_read(alloc, args))
     } else if word == b"nack".as_slice() {
-        reply_of_reading(read_nack(args))
+        reply_to_reading(read_nack(args))
     } else {
         Ok(Reply::Unknown)
     }
 }
 
 /// Returns the reply for the result of a reader.
-fn reply_of_reading<T: Drop>(reading: Result<(T, usize), SentenceError>) -> Result<Reply, RunError>
+fn reply_to_reading<T: Drop>(reading: Result<(T, usize), SentenceError>) -> Result<Reply, RunError>
     ensures { result ≡ verdict_of reading }
 {
     match reading {

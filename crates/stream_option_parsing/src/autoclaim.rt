@@ -7,7 +7,7 @@ ghost use Rattle.stream_options.specs.ReadBack as reading;
 ghost use Rattle.stream_option_parsing.specs.Parts.{autoclaim_of};
 ghost use Rattle.stream_option_parsing.specs.Split.{arguments, IsOneSplit, HasNoSplit};
 
-use crate::clauses::{flag_clause, number_clause};
+use crate::clauses::{parse_flag_clause, parse_number_clause};
 use crate::error::SentenceError;
 use crate::values::begins_with;
 use stream_options::StreamAutoClaimOptions;
@@ -63,7 +63,7 @@ pub fn read_autoclaim_parts(args: &[Vec<u8>]) -> Result<(AutoClaimParts, usize),
         HasNoSplit AutoClaimFits autoclaim_sentence autoclaim_words (arguments args.now)) }
     ensures cause { IfErr result (λ e. e ≡ SentenceError.NotASentence) }
 {
-    let Some((parts, rest)) = autoclaim_at(args) else {
+    let Some((parts, rest)) = parse_autoclaim(args) else {
         return Err(SentenceError::NotASentence);
     };
     if begins_with(&["COUNT", "JUSTID"], rest) {
@@ -73,11 +73,11 @@ pub fn read_autoclaim_parts(args: &[Vec<u8>]) -> Result<(AutoClaimParts, usize),
 }
 
 /// The settings, and the arguments after them.
-fn autoclaim_at(args: &[Vec<u8>]) -> Option<(AutoClaimParts, &[Vec<u8>])>
+fn parse_autoclaim(args: &[Vec<u8>]) -> Option<(AutoClaimParts, &[Vec<u8>])>
     ensures { option_map (λ x. (autoclaim_of x.0, arguments x.1.now)) result
         ≡ reading.autoclaim_at (arguments args.now) }
 {
-    let (count, rest) = number_clause("COUNT", args)?;
-    let (justid, rest) = flag_clause("JUSTID", rest)?;
+    let (count, rest) = parse_number_clause("COUNT", args)?;
+    let (justid, rest) = parse_flag_clause("JUSTID", rest)?;
     Some((AutoClaimParts { count, justid }, rest))
 }

@@ -7,7 +7,7 @@ ghost use Rattle.stream_options.specs.ReadBack as reading;
 ghost use Rattle.stream_option_parsing.specs.Parts.{claim_of};
 ghost use Rattle.stream_option_parsing.specs.Split.{arguments, IsOneSplit, HasNoSplit, Gives};
 
-use crate::clauses::{flag_clause, number_clause, text_clause};
+use crate::clauses::{parse_flag_clause, parse_number_clause, parse_text_clause};
 use crate::error::SentenceError;
 use crate::values::begins_with;
 use std::alloc::Global;
@@ -73,7 +73,7 @@ pub fn read_claim_parts(
     ensures none { IfErr result (λ e. e ≡ SentenceError.NotASentence
         → HasNoSplit ClaimFits claim_sentence claim_words (arguments args.now)) }
 {
-    let (parts, rest) = claim_at(alloc, args)?;
+    let (parts, rest) = parse_claim(alloc, args)?;
     let words = ["IDLE", "TIME", "RETRYCOUNT", "FORCE", "JUSTID", "LASTID"];
     if begins_with(&words, rest) {
         return Err(SentenceError::NotASentence);
@@ -82,26 +82,26 @@ pub fn read_claim_parts(
 }
 
 /// The settings, and the arguments after them.
-fn claim_at(alloc: Global, args: &[Vec<u8>]) -> Result<(ClaimParts, &[Vec<u8>]), SentenceError>
+fn parse_claim(alloc: Global, args: &[Vec<u8>]) -> Result<(ClaimParts, &[Vec<u8>]), SentenceError>
     ensures { Gives (λ x. (claim_of x.0, arguments x.1.now)) result
         (reading.claim_at (arguments args.now)) }
 {
-    let Some((idle, rest)) = number_clause("IDLE", args) else {
+    let Some((idle, rest)) = parse_number_clause("IDLE", args) else {
         return Err(SentenceError::NotASentence);
     };
-    let Some((time, rest)) = number_clause("TIME", rest) else {
+    let Some((time, rest)) = parse_number_clause("TIME", rest) else {
         return Err(SentenceError::NotASentence);
     };
-    let Some((retry, rest)) = number_clause("RETRYCOUNT", rest) else {
+    let Some((retry, rest)) = parse_number_clause("RETRYCOUNT", rest) else {
         return Err(SentenceError::NotASentence);
     };
-    let Some((force, rest)) = flag_clause("FORCE", rest) else {
+    let Some((force, rest)) = parse_flag_clause("FORCE", rest) else {
         return Err(SentenceError::NotASentence);
     };
-    let Some((justid, rest)) = flag_clause("JUSTID", rest) else {
+    let Some((justid, rest)) = parse_flag_clause("JUSTID", rest) else {
         return Err(SentenceError::NotASentence);
     };
-    let (lastid, rest) = text_clause(alloc, "LASTID", rest)?;
+    let (lastid, rest) = parse_text_clause(alloc, "LASTID", rest)?;
     let parts = ClaimParts {
         idle,
         time,

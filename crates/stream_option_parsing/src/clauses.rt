@@ -5,11 +5,11 @@ ghost use Rattle.stream_options.specs.ReadBack as reading;
 ghost use Rattle.stream_option_parsing.specs.Split.{arguments, Gives};
 
 use crate::error::SentenceError;
-use crate::values::{number_in, text_in};
+use crate::values::{parse_number, parse_text};
 use std::alloc::Global;
 
 /// `[word n]`, and the arguments after it; `None` if no number follows the word.
-pub(crate) fn number_clause<'a>(
+pub(crate) fn parse_number_clause<'a>(
     word: &str,
     args: &'a [Vec<u8>],
 ) -> Option<(Option<usize>, &'a [Vec<u8>])>
@@ -19,7 +19,7 @@ pub(crate) fn number_clause<'a>(
     match args {
         [first, rest @ ..] if first.as_slice() == word.as_bytes() => match rest {
             [] => None,
-            [number, rest @ ..] => match number_in(number) {
+            [number, rest @ ..] => match parse_number(number) {
                 Some(n) => Some((Some(n), rest)),
                 None => None,
             },
@@ -29,7 +29,10 @@ pub(crate) fn number_clause<'a>(
 }
 
 /// `[word]`, and the arguments after it.
-pub(crate) fn flag_clause<'a>(word: &str, args: &'a [Vec<u8>]) -> Option<(bool, &'a [Vec<u8>])>
+pub(crate) fn parse_flag_clause<'a>(
+    word: &str,
+    args: &'a [Vec<u8>],
+) -> Option<(bool, &'a [Vec<u8>])>
     ensures { option_map (λ x. (x.0, arguments x.1.now)) result
         ≡ reading.flag_clause word.now (arguments args.now) }
 {
@@ -40,7 +43,7 @@ pub(crate) fn flag_clause<'a>(word: &str, args: &'a [Vec<u8>]) -> Option<(bool, 
 }
 
 /// `[word text]`, and the arguments after it. Memory is allocated only if a text follows the word.
-pub(crate) fn text_clause<'a>(
+pub(crate) fn parse_text_clause<'a>(
     alloc: Global,
     word: &str,
     args: &'a [Vec<u8>],
@@ -54,7 +57,7 @@ pub(crate) fn text_clause<'a>(
         [first, rest @ ..] if first.as_slice() == word.as_bytes() => match rest {
             [] => Err(SentenceError::NotASentence),
             [text, rest @ ..] => {
-                let text = text_in(alloc, text)?;
+                let text = parse_text(alloc, text)?;
                 Ok((Some(text), rest))
             }
         },

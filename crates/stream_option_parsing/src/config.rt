@@ -8,7 +8,7 @@ ghost use Rattle.stream_options.specs.ReadBack.{number_of};
 ghost use Rattle.stream_option_parsing.specs.Split.{arguments, IsOneSplit, HasNoSplit};
 
 use crate::error::SentenceError;
-use crate::values::{begins_with, number_in};
+use crate::values::{begins_with, parse_number};
 use stream_options::StreamConfigOptions;
 
 /// Parses the options of `XCFGSET` from the first arguments: `[IDMP-DURATION d] [IDMP-MAXSIZE m]`, at
@@ -23,7 +23,7 @@ pub fn read_config(args: &[Vec<u8>]) -> Result<(StreamConfigOptions, usize), Sen
         HasNoSplit IsConfig config_sentence config_words (arguments args.now)) }
     ensures cause { IfErr result (λ e. e ≡ SentenceError.NotASentence) }
 {
-    let Some((options, rest)) = config_at(args) else {
+    let Some((options, rest)) = parse_config(args) else {
         return Err(SentenceError::NotASentence);
     };
     if begins_with(&["IDMP-DURATION", "IDMP-MAXSIZE"], rest) {
@@ -33,18 +33,18 @@ pub fn read_config(args: &[Vec<u8>]) -> Result<(StreamConfigOptions, usize), Sen
 }
 
 /// The options, and the arguments after them.
-fn config_at(args: &[Vec<u8>]) -> Option<(StreamConfigOptions, &[Vec<u8>])>
+fn parse_config(args: &[Vec<u8>]) -> Option<(StreamConfigOptions, &[Vec<u8>])>
     ensures { option_map (λ x. (x.0, arguments x.1.now)) result
         ≡ reading.config_at (arguments args.now) }
 {
-    let (seconds, rest) = duration_clause(args)?;
-    let (maxsize, rest) = maxsize_clause(rest)?;
-    let options = config_of(seconds, maxsize)?;
+    let (seconds, rest) = parse_duration_clause(args)?;
+    let (maxsize, rest) = parse_maxsize_clause(rest)?;
+    let options = build_config_options(seconds, maxsize)?;
     Some((options, rest))
 }
 
 /// `[IDMP-DURATION d]`, and the arguments after it.
-fn duration_clause(args: &[Vec<u8>]) -> Option<(Option<u32>, &[Vec<u8>])>
+fn parse_duration_clause(args: &[Vec<u8>]) -> Option<(Option<u32>, &[Vec<u8>])>
     ensures read { option_map (λ x. (x.0, arguments x.1.now)) result
         ≡ reading.duration_clause (arguments args.now) }
     ensures range { IfSome result (λ x. IfSome x.0 IsDuration) }
@@ -52,7 +52,7 @@ fn duration_clause(args: &[Vec<u8>]) -> Option<(Option<u32>, &[Vec<u8>])>
     match args {
         [first, rest @ ..] if first.as_slice() == b"IDMP-DURATION".as_slice() => match rest {
             [] => None,
-            [number, rest @ ..] => match duration_in(number) {
+            [number, rest @ ..] => match parse_duration(number) {
                 Some(n) => Some((Some(n), rest)),
                 None => None,
             },
@@ -62,7 +62,7 @@ fn duration_clause(args: &[Vec<u8>]) -> Option<(Option<u32>, &[Vec<u8>])>
 }
 
 /// `[IDMP-MAXSIZE m]`, and the arguments after it.
-fn maxsize_clause(args: &[Vec<u8>]) -> Option<(Option<u16>, &[Vec<u8>])>
+fn parse_maxsize_clause(args: &[Vec<u8>]) -> Option<(Option<u16>, &[Vec<u8>])>
     ensures read { option_map (λ x. (x.0, arguments x.1.now)) result
         ≡ reading.maxsize_clause (arguments args.now) }
     ensures range { IfSome result (λ x. IfSome x.0 IsMaxsize) }
@@ -70,7 +70,7 @@ fn maxsize_clause(args: &[Vec<u8>]) -> Option<(Option<u16>, &[Vec<u8>])>
     match args {
         [first, rest @ ..] if first.as_slice() == b"IDMP-MAXSIZE".as_slice() => match rest {
             [] => None,
-            [number, rest @ ..] => match maxsize_in(number) {
+            [number, rest @ ..] => match parse_maxsize(number) {
                 Some(n) => Some((Some(n), rest)),
                 None => None,
             },
@@ -80,11 +80,11 @@ fn maxsize_clause(args: &[Vec<u8>]) -> Option<(Option<u16>, &[Vec<u8>])>
 }
 
 /// The duration that the bytes write in decimal; `None` if it is out of range.
-fn duration_in(bytes: &[u8]) -> Option<u32>
+fn parse_duration(bytes: &[u8]) -> Option<u32>
     ensures read { result ≡ reading.kept reading.in_duration number_of bytes.now }
     ensures range { IfSome result IsDuration }
 {
-    match number_in(bytes) {
+    match parse_number(bytes) {
         Some(n) => {
             if 1 <= n && n <= 86400 {
                 Some(n as u32)
@@ -97,11 +97,11 @@ fn duration_in(bytes: &[u8]) -> Option<u32>
 }
 
 /// The number of entries that the bytes write in decimal; `None` if it is out of range.
-fn maxsize_in(bytes: &[u8]) -> Option<u16>
+fn parse_maxsize(bytes: &[u8]) -> Option<u16>
     ensures read { result ≡ reading.kept reading.in_maxsize number_of bytes.now }
     ensures range { IfSome result IsMaxsize }
 {
-    match number_in(bytes) {
+    match parse_number(bytes) {
         Some(n) => {
             if 1 <= n && n <= 10000 {
                 Some(n as u16)
@@ -114,7 +114,7 @@ fn maxsize_in(bytes: &[u8]) -> Option<u16>
 }
 
 /// The options with these numbers, if at least one is given.
-fn config_of(seconds: Option<u32>, maxsize: Option<u16>) -> Option<StreamConfigOptions>
+fn build_config_options(seconds: Option<u32>, maxsize: Option<u16>) -> Option<StreamConfigOptions>
     requires seconds { IfSome seconds IsDuration }
     requires maxsize { IfSome maxsize IsMaxsize }
     ensures { result ≡ reading.if_passes reading.any_set (reading.config_with (seconds, maxsize)) }

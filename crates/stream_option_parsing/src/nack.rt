@@ -22,7 +22,7 @@ pub fn read_nack(args: &[Vec<u8>]) -> Result<(StreamNackOptions, usize), Sentenc
         HasNoSplit Any nack_sentence nack_words (arguments args.now)) }
     ensures cause { IfErr result (λ e. e ≡ SentenceError.NotASentence) }
 {
-    let Some((options, rest)) = nack_at(args) else {
+    let Some((options, rest)) = parse_nack(args) else {
         return Err(SentenceError::NotASentence);
     };
     if begins_with(&["SILENT", "FAIL", "FATAL"], rest) {
@@ -32,21 +32,21 @@ pub fn read_nack(args: &[Vec<u8>]) -> Result<(StreamNackOptions, usize), Sentenc
 }
 
 /// The options, and the arguments after them.
-fn nack_at(args: &[Vec<u8>]) -> Option<(StreamNackOptions, &[Vec<u8>])>
+fn parse_nack(args: &[Vec<u8>]) -> Option<(StreamNackOptions, &[Vec<u8>])>
     ensures { option_map (λ x. (x.0, arguments x.1.now)) result
         ≡ reading.nack_at (arguments args.now) }
 {
     match args {
         [] => None,
         [first, rest @ ..] => {
-            let mode = mode_in(first)?;
+            let mode = parse_mode(first)?;
             Some((StreamNackOptions::new(mode), rest))
         }
     }
 }
 
 /// The mode of a word.
-fn mode_in(arg: &[u8]) -> Option<StreamNackMode>
+fn parse_mode(arg: &[u8]) -> Option<StreamNackMode>
     ensures { option_map view.nack_of result ≡ reading.nack_of arg.now }
 {
     if arg == b"SILENT".as_slice() {

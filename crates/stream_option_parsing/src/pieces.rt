@@ -26,12 +26,12 @@ pub(crate) fn cut_parts(alloc: Global, line: &[u8]) -> Result<(&[u8], Vec<Vec<u8
     ensures some { OnErr result (parts_of line.now ≢ line.now ∷ []) }
 {
     let (word, rest) = cut_at(b' ', line);
-    let args = args_in(alloc, rest)?;
+    let args = cut_args(alloc, rest)?;
     Ok((word, args))
 }
 
 /// The remaining arguments of a line. Memory is allocated only if there are any.
-fn args_in(alloc: Global, line: Option<&[u8]>) -> Result<Vec<Vec<u8>>, RunError>
+fn cut_args(alloc: Global, line: Option<&[u8]>) -> Result<Vec<Vec<u8>>, RunError>
     ensures args { IfOk result (λ args. arguments args.items ≡ parts_left line.entry) }
     ensures err { IfErr result (λ e. e ≡ RunError.Memory) }
     ensures some { OnErr result (parts_left line.entry ≢ []) }

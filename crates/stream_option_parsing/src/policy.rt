@@ -9,13 +9,13 @@ use stream_options::StreamDeletionPolicy;
 
 /// `[policy]`, and the arguments after it.
 #[tactic(auto, using(crate::proofs::PolicyLemmas::policy_there, crate::proofs::PolicyLemmas::policy_missing))]
-pub(crate) fn policy_clause(args: &[Vec<u8>]) -> (Option<StreamDeletionPolicy>, &[Vec<u8>])
+pub(crate) fn parse_policy_clause(args: &[Vec<u8>]) -> (Option<StreamDeletionPolicy>, &[Vec<u8>])
     ensures { reading.policy_clause (arguments args.now)
         ≡ Some (option_map view.policy_of result.0, arguments result.1.now) }
 {
     match args {
         [] => (None, args),
-        [first, rest @ ..] => match policy_in(first) {
+        [first, rest @ ..] => match parse_policy(first) {
             Some(policy) => (Some(policy), rest),
             None => (None, args),
         },
@@ -23,7 +23,7 @@ pub(crate) fn policy_clause(args: &[Vec<u8>]) -> (Option<StreamDeletionPolicy>, 
 }
 
 /// The policy of a word.
-fn policy_in(arg: &[u8]) -> Option<StreamDeletionPolicy>
+fn parse_policy(arg: &[u8]) -> Option<StreamDeletionPolicy>
     ensures { option_map view.policy_of result ≡ reading.policy_of arg.now }
 {
     if arg == b"KEEPREF".as_slice() {

@@ -6,7 +6,7 @@ ghost use Rattle.stream_options.specs.ReadBack as reading;
 ghost use Rattle.stream_option_parsing.specs.Parts.{group_of, read_of};
 ghost use Rattle.stream_option_parsing.specs.Split.{arguments, IsOneSplit, HasNoSplit};
 
-use crate::clauses::{flag_clause, number_clause};
+use crate::clauses::{parse_flag_clause, parse_number_clause};
 use crate::error::SentenceError;
 use crate::values::begins_with;
 use redis_args::RawBytes;
@@ -46,7 +46,7 @@ pub fn read_with(alloc: Global, parts: ReadParts<'_>) -> Result<StreamReadOption
     ensures none { IfErr result (λ e. parts.entry.group ≢ None) }
 {
     let options = match parts.group {
-        Some(names) => for_group(alloc, names.group, names.consumer)?,
+        Some(names) => build_group_options(alloc, names.group, names.consumer)?,
         None => StreamReadOptions::default(),
     };
     let options = with_count(with_block(options, parts.block), parts.count);
@@ -85,7 +85,7 @@ pub fn read_read_parts(args: &[Vec<u8>]) -> Result<(ReadParts<'_>, usize), Sente
         HasNoSplit ReadFits read_sentence read_words (arguments args.now)) }
     ensures cause { IfErr result (λ e. e ≡ SentenceError.NotASentence) }
 {
-    let Some((parts, rest)) = read_at(args) else {
+    let Some((parts, rest)) = parse_read(args) else {
         return Err(SentenceError::NotASentence);
     };
     if begins_with(&["GROUP", "BLOCK", "COUNT", "NOACK", "CLAIM"], rest) {
@@ -96,30 +96,30 @@ pub fn read_read_parts(args: &[Vec<u8>]) -> Result<(ReadParts<'_>, usize), Sente
 
 /// The settings, and the arguments after them.
 #[tactic(auto, using(crate::proofs::ReadLemmas::forms))]
-fn read_at(args: &[Vec<u8>]) -> Option<(ReadParts<'_>, &[Vec<u8>])>
+fn parse_read(args: &[Vec<u8>]) -> Option<(ReadParts<'_>, &[Vec<u8>])>
     ensures read { option_map (λ x. (read_of x.0, arguments x.1.now)) result
         ≡ reading.read_at (arguments args.now) }
     ensures noack { IfSome result (λ x. x.0.group ≡ None → x.0.noack ≡ false) }
     ensures claim { IfSome result (λ x. x.0.group ≡ None → x.0.claim ≡ None) }
 {
     if begins_with(&["GROUP"], args) {
-        grouped_at(args)
+        parse_grouped_read(args)
     } else {
-        ungrouped_at(args)
+        parse_ungrouped_read(args)
     }
 }
 
 /// `GROUP g c [BLOCK n] [COUNT n] [NOACK] [CLAIM n]`, and the arguments after it.
-fn grouped_at(args: &[Vec<u8>]) -> Option<(ReadParts<'_>, &[Vec<u8>])>
+fn parse_grouped_read(args: &[Vec<u8>]) -> Option<(ReadParts<'_>, &[Vec<u8>])>
     ensures read { option_map (λ x. (read_of x.0, arguments x.1.now)) result
         ≡ reading.reading_as reading.grouped_with reading.grouped_at (arguments args.now) }
     ensures grouped { IfSome result (λ x. x.0.group ≢ None) }
 {
-    let (names, rest) = group_at(args)?;
-    let (block, rest) = number_clause("BLOCK", rest)?;
-    let (count, rest) = number_clause("COUNT", rest)?;
-    let (noack, rest) = flag_clause("NOACK", rest)?;
-    let (claim, rest) = number_clause("CLAIM", rest)?;
+    let (names, rest) = parse_group(args)?;
+    let (block, rest) = parse_number_clause("BLOCK", rest)?;
+    let (count, rest) = parse_number_clause("COUNT", rest)?;
+    let (noack, rest) = parse_flag_clause("NOACK", rest)?;
+    let (claim, rest) = parse_number_clause("CLAIM", rest)?;
     let parts = ReadParts {
         group: Some(names),
         block,
@@ -131,7 +131,7 @@ fn grouped_at(args: &[Vec<u8>]) -> Option<(ReadParts<'_>, &[Vec<u8>])>
 }
 
 /// `GROUP g c`, and the arguments after it.
-fn group_at(args: &[Vec<u8>]) -> Option<(GroupNames<'_>, &[Vec<u8>])>
+fn parse_group(args: &[Vec<u8>]) -> Option<(GroupNames<'_>, &[Vec<u8>])>
     ensures { option_map (λ x. (group_of x.0, arguments x.1.now)) result
         ≡ reading.group_at (arguments args.now) }
 {
@@ -144,14 +144,14 @@ fn group_at(args: &[Vec<u8>]) -> Option<(GroupNames<'_>, &[Vec<u8>])>
 }
 
 /// `[BLOCK n] [COUNT n]`, and the arguments after it.
-fn ungrouped_at(args: &[Vec<u8>]) -> Option<(ReadParts<'_>, &[Vec<u8>])>
+fn parse_ungrouped_read(args: &[Vec<u8>]) -> Option<(ReadParts<'_>, &[Vec<u8>])>
     ensures read { option_map (λ x. (read_of x.0, arguments x.1.now)) result
         ≡ reading.reading_as reading.ungrouped_with reading.ungrouped_at (arguments args.now) }
     ensures noack { IfSome result (λ x. x.0.noack ≡ false) }
     ensures claim { IfSome result (λ x. x.0.claim ≡ None) }
 {
-    let (block, rest) = number_clause("BLOCK", args)?;
-    let (count, rest) = number_clause("COUNT", rest)?;
+    let (block, rest) = parse_number_clause("BLOCK", args)?;
+    let (count, rest) = parse_number_clause("COUNT", rest)?;
     let parts = ReadParts {
         group: None,
         block,
@@ -163,7 +163,7 @@ fn ungrouped_at(args: &[Vec<u8>]) -> Option<(ReadParts<'_>, &[Vec<u8>])>
 }
 
 /// The options with only these names.
-fn for_group(
+fn build_group_options(
     alloc: Global,
     group: &[u8],
     consumer: &[u8],

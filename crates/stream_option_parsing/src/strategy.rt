@@ -4,15 +4,15 @@ ghost use Rattle.stream_options.specs.ReadBack as reading;
 ghost use Rattle.stream_options.specs.View.{strategy_of};
 ghost use Rattle.stream_option_parsing.specs.Split.{arguments, Gives, unlimited_at};
 
-use crate::clauses::number_clause;
+use crate::clauses::parse_number_clause;
 use crate::error::SentenceError;
-use crate::values::{mode_in, number_in, text_in};
+use crate::values::{parse_mode, parse_number, parse_text};
 use std::alloc::Global;
 use stream_options::StreamTrimStrategy;
 
 /// A strategy, and the arguments after it. Memory is allocated only if there is a bound.
 #[tactic(auto, using(crate::proofs::StrategyLemmas::limits))]
-pub(crate) fn strategy_at(
+pub(crate) fn parse_strategy(
     alloc: Global,
     args: &[Vec<u8>],
 ) -> Result<(StreamTrimStrategy, &[Vec<u8>]), SentenceError>
@@ -21,8 +21,8 @@ pub(crate) fn strategy_at(
     ensures none { IfErr result (λ e. unlimited_at (arguments args.now) ≡ None
         → e ≡ SentenceError.NotASentence) }
 {
-    let (strategy, rest) = bound_at(alloc, args)?;
-    let Some((limit, rest)) = number_clause("LIMIT", rest) else {
+    let (strategy, rest) = parse_bound(alloc, args)?;
+    let Some((limit, rest)) = parse_number_clause("LIMIT", rest) else {
         return Err(SentenceError::NotASentence);
     };
     match limit {
@@ -33,7 +33,7 @@ pub(crate) fn strategy_at(
 
 /// `MAXLEN mode n` or `MINID mode id` as a strategy without a limit, and the arguments after it.
 /// Memory is allocated only if there is one.
-fn bound_at(
+fn parse_bound(
     alloc: Global,
     args: &[Vec<u8>],
 ) -> Result<(StreamTrimStrategy, &[Vec<u8>]), SentenceError>
@@ -48,17 +48,17 @@ fn bound_at(
         [_word, _mode] => Err(SentenceError::NotASentence),
         [word, mode, value, rest @ ..] => {
             if word.as_slice() == b"MAXLEN".as_slice() {
-                match mode_in(mode) {
-                    Some(mode) => match number_in(value) {
+                match parse_mode(mode) {
+                    Some(mode) => match parse_number(value) {
                         Some(n) => Ok((StreamTrimStrategy::maxlen(mode, n), rest)),
                         None => Err(SentenceError::NotASentence),
                     },
                     None => Err(SentenceError::NotASentence),
                 }
             } else if word.as_slice() == b"MINID".as_slice() {
-                match mode_in(mode) {
+                match parse_mode(mode) {
                     Some(mode) => {
-                        let id = text_in(alloc, value)?;
+                        let id = parse_text(alloc, value)?;
                         Ok((StreamTrimStrategy::minid(mode, id), rest))
                     }
                     None => Err(SentenceError::NotASentence),

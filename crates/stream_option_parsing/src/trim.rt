@@ -9,8 +9,8 @@ ghost use Rattle.stream_option_parsing.specs.Parts.{trim_of};
 ghost use Rattle.stream_option_parsing.specs.Split.{arguments, IsOneSplit, HasNoSplit, Gives};
 
 use crate::error::SentenceError;
-use crate::policy::policy_clause;
-use crate::strategy::strategy_at;
+use crate::policy::parse_policy_clause;
+use crate::strategy::parse_strategy;
 use crate::values::begins_with;
 use std::alloc::Global;
 use stream_options::{StreamDeletionPolicy, StreamTrimOptions, StreamTrimStrategy};
@@ -28,7 +28,7 @@ pub struct TrimParts {
 pub fn trim_with(parts: TrimParts) -> StreamTrimOptions
     ensures { result ≡ trim_of parts }
 {
-    with_policy(trim_by(parts.strategy), parts.policy)
+    with_policy(build_trim_options(parts.strategy), parts.policy)
 }
 
 /// Parses the options of `XTRIM` from the first arguments: `strategy [policy]`. Returns them with the
@@ -58,7 +58,7 @@ pub fn read_trim_parts(alloc: Global, args: &[Vec<u8>]) -> Result<(TrimParts, us
     ensures none { IfErr result (λ e. e ≡ SentenceError.NotASentence
         → HasNoSplit TrimFits trim_sentence trim_words (arguments args.now)) }
 {
-    let (parts, rest) = trim_at(alloc, args)?;
+    let (parts, rest) = parse_trim(alloc, args)?;
     let words = [
         "MAXLEN", "MINID", "LIMIT", "=", "~", "KEEPREF", "DELREF", "ACKED",
     ];
@@ -69,16 +69,16 @@ pub fn read_trim_parts(alloc: Global, args: &[Vec<u8>]) -> Result<(TrimParts, us
 }
 
 /// The settings, and the arguments after them.
-fn trim_at(alloc: Global, args: &[Vec<u8>]) -> Result<(TrimParts, &[Vec<u8>]), SentenceError>
+fn parse_trim(alloc: Global, args: &[Vec<u8>]) -> Result<(TrimParts, &[Vec<u8>]), SentenceError>
     ensures { Gives (λ x. (trim_of x.0, arguments x.1.now)) result (reading.trim_at (arguments args.now)) }
 {
-    let (strategy, rest) = strategy_at(alloc, args)?;
-    let (policy, rest) = policy_clause(rest);
+    let (strategy, rest) = parse_strategy(alloc, args)?;
+    let (policy, rest) = parse_policy_clause(rest);
     Ok((TrimParts { strategy, policy }, rest))
 }
 
 /// The options with this strategy.
-fn trim_by(strategy: StreamTrimStrategy) -> StreamTrimOptions
+fn build_trim_options(strategy: StreamTrimStrategy) -> StreamTrimOptions
     ensures { result ≡ record { strategy = strategy_of strategy; policy = None } }
 {
     match strategy {

@@ -12,7 +12,7 @@ use std::alloc::Global;
 use stream_options::StreamTrimmingMode;
 
 /// The number that the bytes write in decimal, with no sign and no leading zero.
-pub(crate) fn number_in(bytes: &[u8]) -> Option<usize>
+pub(crate) fn parse_number(bytes: &[u8]) -> Option<usize>
     ensures { result ≡ number_of bytes.now }
 {
     let Ok(text) = std::str::from_utf8(bytes) else {
@@ -30,7 +30,7 @@ pub(crate) fn number_in(bytes: &[u8]) -> Option<usize>
 }
 
 /// The bytes as a text. Memory is allocated only if they are UTF-8.
-pub(crate) fn text_in(alloc: Global, bytes: &[u8]) -> Result<String, SentenceError>
+pub(crate) fn parse_text(alloc: Global, bytes: &[u8]) -> Result<String, SentenceError>
     ensures text { Gives string_bytes result (text_of bytes.now) }
     ensures none { IfErr result (λ e. text_of bytes.now ≡ None → e ≡ SentenceError.NotASentence) }
 {
@@ -41,7 +41,7 @@ pub(crate) fn text_in(alloc: Global, bytes: &[u8]) -> Result<String, SentenceErr
 }
 
 /// The mode of a word.
-pub(crate) fn mode_in(arg: &[u8]) -> Option<StreamTrimmingMode>
+pub(crate) fn parse_mode(arg: &[u8]) -> Option<StreamTrimmingMode>
     ensures { option_map view.mode_of result ≡ mode_of arg.now }
 {
     if arg == b"=".as_slice() {

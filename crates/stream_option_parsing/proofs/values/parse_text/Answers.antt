@@ -1,6 +1,6 @@
 use Rattle.std.proofs.Common.{rules, ◌≡◌, string_bytes}
 use Rattle.stream_option_parsing.proofs.Texts.{is_text, is_no_text, not_of_text}
-use Rattle.stream_option_parsing.proofs.values.text_in.Goals as goal
+use Rattle.stream_option_parsing.proofs.values.parse_text.Goals as goal
 
 pub returns-in_ok-from_str-in-Ok-clause-text : goal.returns-in_ok-from_str-in-Ok-clause-text
 returns-in_ok-from_str-in-Ok-clause-text c =

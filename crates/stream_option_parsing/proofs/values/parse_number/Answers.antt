@@ -2,7 +2,7 @@ use Rattle.std.proofs.Common.{rules, true, false, ◌≡◌, decimal, sym, ◌�
 use Rattle.std.proofs.lemmas.Slice.Eq.{slice_eq-Decides}
 use Rattle.std.proofs.lemmas.Bool.Decides.{Decides-eqb}
 use Rattle.stream_option_parsing.proofs.Numbers.{not_text, not_parsed, parsed, parsed_otherwise}
-use Rattle.stream_option_parsing.proofs.values.number_in.Goals as goal
+use Rattle.stream_option_parsing.proofs.values.parse_number.Goals as goal
 
 pub returns-in_default : goal.returns-in_default
 returns-in_default c = not_text c.args.bytes.now c.in_default.ensures.cases.0

@@ -3,7 +3,7 @@ use Rattle.stream_options.specs.ReadBack.{number_clause}
 use Rattle.stream_options.specs.View.{strategy_of}
 use Rattle.stream_option_parsing.specs.Split.{arguments}
 use Rattle.stream_option_parsing.proofs.StrategyLemmas.{strategy_unlimited}
-use Rattle.stream_option_parsing.proofs.strategy.strategy_at.Goals as goal
+use Rattle.stream_option_parsing.proofs.strategy.parse_strategy.Goals as goal
 
 pub returns-in-None-clause-strategy : goal.returns-in-None-clause-strategy
 returns-in-None-clause-strategy c =

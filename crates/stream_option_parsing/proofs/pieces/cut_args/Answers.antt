@@ -1,7 +1,7 @@
 use Rattle.std.proofs.Common.{[], ◌∷◌}
 use Rattle.std.proofs.lemmas.Result.{err_from_is_err_and}
 use Rattle.stream_option_parsing.proofs.LineLemmas.{args_more, some_left}
-use Rattle.stream_option_parsing.proofs.pieces.args_in.Goals as goal
+use Rattle.stream_option_parsing.proofs.pieces.cut_args.Goals as goal
 
 pub parts-preserved : goal.parts-preserved
 parts-preserved c =
