@@ -1,5 +1,5 @@
-//! Plays both ends of a stream over a server in memory, and compares what went in with what is in the
-//! file: a producer adds records, and a worker writes them into a file of lines.
+//! Plays both ends of a stream over a server in memory: a producer adds records, and a worker writes them into
+//! a file of lines. At the end of a run the lines are compared with the records.
 //!
 //! Each line is played as a number of runs, and is printed with their outcome after a tab:
 //!
@@ -22,17 +22,17 @@
 //! | `forgets` | wrong: a new worker ignores the last lines of its file |
 //! | `guesses` | wrong: after its connection broke, the producer does not read the last id of the stream |
 //!
-//! A worker that is restarted first acknowledges the last lines of its file, as many as one read
-//! returns.
+//! A worker that is restarted first acknowledges the entries of the last lines of its file, as many as one
+//! read returns.
 //!
-//! For each line the number of runs and the faults in them are printed. Then how many files differ from
-//! the records, and how many of these have a line twice, lack one, or have one of no record. If a file
-//! differs in none of these ways, its lines are in another order.
+//! For each line the numbers of runs and of their faults are printed. Then comes the number of files that
+//! differ from the records. Of these, the numbers of files are printed that have a line twice, lack one, or
+//! have one of no record. If a file differs in none of these ways, its lines are in another order.
 ghost use Rattle.std.specs.Prelude.{◌≡◌, IfOk};
 ghost use Rattle.test_sessions.specs.Scripts.{is_both_ends_script};
 
-use crate::producer::records_of;
-use crate::{claim_settings, next, number_of, parted, push_line};
+use crate::producer::make_records;
+use crate::{draw_next, make_claim_settings, parse_number, push_line, split_at_mark};
 use redis_wire::{Decoded, Limits, Reply, ReplyStream, WireError, decode};
 use server_commands::{Client, Server};
 use std::alloc::{AllocError, Global};
@@ -44,7 +44,7 @@ use worker::{
 use worker_journal::{LineLog, LogFile, TornFile, entry_in, push_escaped, push_field};
 use worker_producer::{FeedError, Producer, Record, Settings as FeedSettings, Stage};
 
-/// The parameters of the runs of a line.
+/// The parameters of the runs of a line, as the tables above say.
 #[derive(Clone, Copy)]
 struct Plan {
     records: usize,
@@ -58,7 +58,7 @@ struct Plan {
     guesses: bool,
 }
 
-/// Plays a script of this name. Returns whether it is one of this module.
+/// Plays the script if this module has one of this name. Returns whether it has.
 pub fn play(alloc: Global, name: &str, lines: &str, out: &mut String) -> Result<bool, AllocError>
     ensures { IfOk result (λ played. played ≡ is_both_ends_script name.now) }
 {
@@ -83,15 +83,18 @@ fn play_lines(alloc: Global, lines: &str, out: &mut String) -> Result<(), AllocE
 
 /// Plays the runs of a line, and returns their outcome.
 fn play_line(alloc: Global, line: &str) -> Result<String, AllocError> {
-    let (name, words) = parted(line, ' ');
+    let (name, words) = split_at_mark(line, ' ');
     if name == "calm" {
-        return String::from_str(alloc, calm_text(plays_calmly(alloc, plan_of(words))?));
+        return String::from_str(
+            alloc,
+            describe_calm_run(is_same_without_fault(alloc, parse_plan(words))?),
+        );
     }
-    play_runs(alloc, name, words)?.text(alloc)
+    play_runs(alloc, name, words)?.to_text(alloc)
 }
 
-/// The outcome of a run with no fault.
-fn calm_text(is_same: bool) -> &'static str {
+/// Returns the outcome of a run with no fault, as text.
+fn describe_calm_run(is_same: bool) -> &'static str {
     if is_same {
         "the same records, in order, each once"
     } else {
@@ -99,22 +102,22 @@ fn calm_text(is_same: bool) -> &'static str {
     }
 }
 
-/// Plays the runs of a line.
+/// Plays the runs of a line that has faults, and returns their sum.
 fn play_runs(alloc: Global, name: &str, words: &str) -> Result<Tally, AllocError> {
-    let (end, rest) = parted(words, ' ');
-    let plan = plan_of(rest);
+    let (end, rest) = split_at_mark(words, ' ');
+    let plan = parse_plan(rest);
     match name {
-        "cut" => cuts(alloc, plan, end_of(end)),
-        "crash" if end == "file" => torn_files(alloc, plan),
-        "crash" => crashes(alloc, plan, end_of(end)),
-        "late" => lates(alloc, plan, end_of(end)),
-        "random" => schedules(alloc, plan, number_of(end), plan.records),
+        "cut" => run_cuts(alloc, plan, parse_end(end)),
+        "crash" if end == "file" => run_torn_files(alloc, plan),
+        "crash" => run_crashes(alloc, plan, parse_end(end)),
+        "late" => run_late(alloc, plan, parse_end(end)),
+        "random" => run_schedules(alloc, plan, parse_number(end), plan.records),
         _ => Ok(Tally::new()),
     }
 }
 
-/// The end of this name.
-fn end_of(word: &str) -> End {
+/// Returns the end of this name.
+fn parse_end(word: &str) -> End {
     if word == "producer" {
         End::Producer
     } else {
@@ -122,7 +125,7 @@ fn end_of(word: &str) -> End {
     }
 }
 
-/// Whether `word` is one of these words.
+/// Returns whether `word` is one of these words.
 fn has_word(words: &str, word: &str) -> bool {
     for other in words.split(' ') {
         if other == word {
@@ -132,15 +135,15 @@ fn has_word(words: &str, word: &str) -> bool {
     false
 }
 
-/// The plan of three numbers and the words after them.
-fn plan_of(words: &str) -> Plan {
-    let (records, rest) = parted(words, ' ');
-    let (batch, rest) = parted(rest, ' ');
-    let (page, _) = parted(rest, ' ');
+/// Returns the plan in three numbers and the words after them.
+fn parse_plan(words: &str) -> Plan {
+    let (records, rest) = split_at_mark(words, ' ');
+    let (batch, rest) = split_at_mark(rest, ' ');
+    let (page, _) = split_at_mark(rest, ' ');
     Plan {
-        records: number_of(records),
-        batch: number_of(batch),
-        page: number_of(page),
+        records: parse_number(records),
+        batch: parse_number(batch),
+        page: parse_number(page),
         is_resp3: has_word(words, "resp3"),
         restarts: has_word(words, "restarts"),
         forgets: has_word(words, "forgets"),
@@ -151,7 +154,7 @@ fn plan_of(words: &str) -> Plan {
 // The connection of an end to the server in memory. It breaks after a number of bytes. The unsent
 // bytes may arrive later.
 
-/// A fault that never happens.
+/// The number of bytes, steps or moments of a fault that never happens.
 const NEVER: usize = usize::MAX;
 
 /// The result of a turn of an end.
@@ -187,7 +190,7 @@ const CALM: Faults = Faults {
 struct Late {
     client: Client,
     bytes: Vec<u8>,
-    /// The number of moments until then.
+    /// The number of moments until they arrive.
     moments: usize,
 }
 
@@ -203,21 +206,21 @@ struct Link {
     late: Option<Late>,
     faults: Faults,
     /// How many times late bytes arrived.
-    lates: usize,
+    late_arrivals: usize,
     /// How many times they added records.
     late_records: usize,
 }
 
-/// The reply to a command outside of all connections.
-fn reply_to(alloc: Global, server: &mut Server, command: &[u8]) -> Result<Vec<u8>, AllocError> {
+/// Executes a command over a connection of its own, and returns the bytes of the reply.
+fn ask_server(alloc: Global, server: &mut Server, command: &[u8]) -> Result<Vec<u8>, AllocError> {
     let mut client = Client::new(alloc);
     let mut reply = Vec::new(alloc);
     client.answer(alloc, server, 0, command, &mut reply)?;
     Ok(reply)
 }
 
-/// A client that speaks this protocol.
-fn client_of(alloc: Global, server: &mut Server, is_resp3: bool) -> Result<Client, AllocError> {
+/// Returns the server's side of a new connection, over RESP3 or RESP2.
+fn make_client(alloc: Global, server: &mut Server, is_resp3: bool) -> Result<Client, AllocError> {
     let mut client = Client::new(alloc);
     if is_resp3 {
         let mut reply = Vec::new(alloc);
@@ -226,17 +229,17 @@ fn client_of(alloc: Global, server: &mut Server, is_resp3: bool) -> Result<Clien
     Ok(client)
 }
 
-/// Splits off the bytes that pass before the connection breaks, and returns them and the rest.
-fn passing<'a>(left: &mut usize, bytes: &'a [u8]) -> (&'a [u8], &'a [u8]) {
-    let len = bytes.len().min(*left);
-    *left -= len;
+/// Splits bytes where the connection breaks. Subtracts the number of bytes before that from `remaining`.
+fn split_at_break<'a>(remaining: &mut usize, bytes: &'a [u8]) -> (&'a [u8], &'a [u8]) {
+    let len = bytes.len().min(*remaining);
+    *remaining -= len;
     bytes.split_at(len)
 }
 
 impl Link {
-    /// A connection without a fault.
+    /// Returns a connection without a fault.
     fn new(alloc: Global, server: &mut Server, is_resp3: bool) -> Result<Link, AllocError> {
-        let client = client_of(alloc, server, is_resp3)?;
+        let client = make_client(alloc, server, is_resp3)?;
         Ok(Link {
             is_resp3,
             client,
@@ -244,14 +247,14 @@ impl Link {
             unsent: Vec::new(alloc),
             late: None,
             faults: CALM,
-            lates: 0,
+            late_arrivals: 0,
             late_records: 0,
         })
     }
 
     /// Replaces this connection with one without a fault. Unsent bytes of this one may arrive later.
     fn connect_again(&mut self, alloc: Global, server: &mut Server) -> Result<(), AllocError> {
-        let next = client_of(alloc, server, self.is_resp3)?;
+        let next = make_client(alloc, server, self.is_resp3)?;
         let client = mem::replace(&mut self.client, next);
         let bytes = mem::replace(&mut self.unsent, Vec::new(alloc));
         let moments = self.faults.delay;
@@ -267,17 +270,18 @@ impl Link {
         Ok(())
     }
 
-    /// Whether the connection has no fault.
+    /// Returns whether the connection has no fault.
     fn is_calm(&self) -> bool {
         self.faults.bytes == NEVER && self.faults.steps == NEVER
     }
 
-    /// Whether late bytes are still to arrive.
+    /// Returns whether late bytes are still to arrive.
     fn has_late(&self) -> bool {
         self.late.is_some()
     }
 
-    /// Advances by one moment: late bytes may arrive now. The replies to them are dropped.
+    /// Advances by one moment, at each turn of the end and in the middle of each request. Late bytes may arrive now,
+    /// and the replies to them are dropped.
     fn pass_moment(
         &mut self,
         alloc: Global,
@@ -292,19 +296,19 @@ impl Link {
             self.late = Some(late);
             return Ok(());
         }
-        self.lates = self.lates.saturating_add(1);
-        let before = reply_to(alloc, server, b"XLEN k\r\n")?;
+        self.late_arrivals = self.late_arrivals.saturating_add(1);
+        let before = ask_server(alloc, server, b"XLEN k\r\n")?;
         let mut replies = Vec::new(alloc);
         late.client
             .answer(alloc, server, now, &late.bytes, &mut replies)?;
-        if reply_to(alloc, server, b"XLEN k\r\n")? != before {
+        if ask_server(alloc, server, b"XLEN k\r\n")? != before {
             self.late_records = self.late_records.saturating_add(1);
         }
         Ok(())
     }
 
     /// Takes one step. Returns `false` if the end is killed before it.
-    fn goes_on(&mut self) -> bool {
+    fn take_step(&mut self) -> bool {
         if self.faults.steps == 0 {
             return false;
         }
@@ -320,7 +324,7 @@ impl Link {
         now: u64,
         bytes: &[u8],
     ) -> Result<Turn, AllocError> {
-        let (sent, unsent) = passing(&mut self.faults.bytes, bytes);
+        let (sent, unsent) = split_at_break(&mut self.faults.bytes, bytes);
         let (first, second) = sent.split_at(sent.len() / 2);
         let mut replies = Vec::new(alloc);
         self.client.answer(alloc, server, now, first, &mut replies)?;
@@ -331,16 +335,16 @@ impl Link {
             self.unsent.extend_from_slice(unsent)?;
             return Ok(Turn::Cut);
         }
-        self.bring(&replies)
+        self.deliver_replies(&replies)
     }
 
     /// Delivers replies to the end, unless it is killed before.
-    fn bring(&mut self, replies: &[u8]) -> Result<Turn, AllocError> {
-        if !self.goes_on() {
+    fn deliver_replies(&mut self, replies: &[u8]) -> Result<Turn, AllocError> {
+        if !self.take_step() {
             return Ok(Turn::Killed);
         }
-        let (come, lost) = passing(&mut self.faults.bytes, replies);
-        if self.replies.feed(come).is_err() {
+        let (received, lost) = split_at_break(&mut self.faults.bytes, replies);
+        if self.replies.feed(received).is_err() {
             return Err(AllocError);
         }
         Ok(if lost.is_empty() {
@@ -350,34 +354,34 @@ impl Link {
         })
     }
 
-    /// The next reply, if it is complete.
-    fn next_reply(&mut self, alloc: Global) -> Result<Option<Reply>, AllocError> {
+    /// Removes and returns the next reply, if it is complete.
+    fn take_reply(&mut self, alloc: Global) -> Result<Option<Reply>, AllocError> {
         match self.replies.next(alloc) {
             Ok(reply) => Ok(reply),
             Err(_) => Err(AllocError),
         }
     }
 
-    /// The length of the next reply, if it is complete.
-    fn next_len(&mut self, alloc: Global) -> Result<Option<usize>, AllocError> {
+    /// Returns the length of the next reply, if it is complete.
+    fn find_reply_len(&mut self, alloc: Global) -> Result<Option<usize>, AllocError> {
         match self.replies.next_in_place(alloc) {
             Ok(len) => Ok(len),
             Err(_) => Err(AllocError),
         }
     }
 
-    /// The bytes of replies that were not taken out.
+    /// Returns the bytes of replies that were not removed.
     fn reply_bytes(&self) -> &[u8] {
         self.replies.bytes()
     }
 
-    /// Removes this number of these bytes.
-    fn give_out(&mut self, len: usize) {
+    /// Removes the first `len` bytes of the replies.
+    fn remove_bytes(&mut self, len: usize) {
         self.replies.give_out(len);
     }
 }
 
-// The end of the producer.
+// The producer's end of the stream.
 
 /// The record k has the id `(BASE + k)-0`.
 const BASE: u64 = 100;
@@ -397,18 +401,18 @@ struct Feed {
     is_refused: bool,
 }
 
-/// A producer of batches of this size. Scripts use only sizes from 1 to 10,000.
-fn producer_of(alloc: Global, batch: usize) -> Result<Producer, AllocError> {
+/// Returns a producer that adds at most `batch` records at once. Scripts use only sizes from 1 to 10,000.
+fn make_producer(alloc: Global, batch: usize) -> Result<Producer, AllocError> {
     match FeedSettings::new(String::from_str(alloc, "k")?, BASE, batch) {
         Ok(settings) => Ok(Producer::new(settings)),
         Err(_error) => Err(AllocError),
     }
 }
 
-/// A new producer, and its connection.
-fn feed_of(alloc: Global, server: &mut Server, plan: Plan) -> Result<Feed, AllocError> {
-    let records = records_of(alloc, 1, plan.records)?;
-    let producer = producer_of(alloc, plan.batch)?;
+/// Returns a new producer, its records and its connection.
+fn make_feed(alloc: Global, server: &mut Server, plan: Plan) -> Result<Feed, AllocError> {
+    let records = make_records(alloc, 1, plan.records)?;
+    let producer = make_producer(alloc, plan.batch)?;
     let link = Link::new(alloc, server, plan.is_resp3)?;
     Ok(Feed {
         producer,
@@ -421,55 +425,55 @@ fn feed_of(alloc: Global, server: &mut Server, plan: Plan) -> Result<Feed, Alloc
     })
 }
 
-/// Whether the producer knows that all records are in the stream.
-fn is_all_in(feed: &Feed) -> bool {
+/// Returns whether the producer knows that all records are in the stream.
+fn is_all_added(feed: &Feed) -> bool {
     feed.producer.stage() == Stage::Knows(feed.records.len() as u64)
 }
 
-/// The producer sends its commands, and takes the replies.
-fn feed_turn(
+/// Has the producer send its next commands and take the replies.
+fn run_feed(
     alloc: Global,
     server: &mut Server,
     now: u64,
     feed: &mut Feed,
 ) -> Result<Turn, AllocError> {
     feed.link.pass_moment(alloc, server, now)?;
-    if !feed.link.goes_on() {
+    if !feed.link.take_step() {
         return Ok(Turn::Killed);
     }
-    let mut question = Vec::new(alloc);
-    let asked = feed
+    let mut request = Vec::new(alloc);
+    let result = feed
         .producer
-        .request(alloc, &mut question, &mut feed.records);
-    if asked.is_err() {
+        .request(alloc, &mut request, &mut feed.records);
+    if result.is_err() {
         return Err(AllocError);
     }
-    if question.is_empty() {
+    if request.is_empty() {
         return Ok(Turn::Done);
     }
-    let turn = feed.link.exchange(alloc, server, now, &question)?;
+    let turn = feed.link.exchange(alloc, server, now, &request)?;
     if matches!(turn, Turn::Killed) {
         return Ok(turn);
     }
-    hear_all(alloc, feed, turn)
+    handle_replies(alloc, feed, turn)
 }
 
-/// The producer takes the replies that arrived.
-fn hear_all(alloc: Global, feed: &mut Feed, turn: Turn) -> Result<Turn, AllocError> {
+/// Passes the replies that arrived to the producer.
+fn handle_replies(alloc: Global, feed: &mut Feed, turn: Turn) -> Result<Turn, AllocError> {
     for _ in 0..feed.producer.coming() {
-        let Some(reply) = feed.link.next_reply(alloc)? else {
+        let Some(reply) = feed.link.take_reply(alloc)? else {
             return Ok(Turn::Cut);
         };
-        hear_reply(alloc, feed, reply)?;
-        if !feed.link.goes_on() {
+        handle_reply(alloc, feed, reply)?;
+        if !feed.link.take_step() {
             return Ok(Turn::Killed);
         }
     }
     Ok(turn)
 }
 
-/// The producer takes a reply.
-fn hear_reply(alloc: Global, feed: &mut Feed, reply: Reply) -> Result<(), AllocError> {
+/// Passes a reply to the producer.
+fn handle_reply(alloc: Global, feed: &mut Feed, reply: Reply) -> Result<(), AllocError> {
     let count = feed.records.len() as u64;
     match feed.producer.answered(alloc, reply, count) {
         Ok(()) => Ok(()),
@@ -483,11 +487,11 @@ fn hear_reply(alloc: Global, feed: &mut Feed, reply: Reply) -> Result<(), AllocE
 
 /// Starts another producer over a new connection.
 fn start_feed_again(alloc: Global, server: &mut Server, feed: &mut Feed) -> Result<(), AllocError> {
-    feed.producer = producer_of(alloc, feed.batch)?;
+    feed.producer = make_producer(alloc, feed.batch)?;
     feed.link.connect_again(alloc, server)
 }
 
-/// Gives the producer a new connection; another producer starts over it if the schedule restarts them.
+/// Gives the producer a new connection. If `restarts` is set, another producer starts over it.
 fn connect_feed_again(
     alloc: Global,
     server: &mut Server,
@@ -499,28 +503,29 @@ fn connect_feed_again(
     let stage = feed.producer.stage();
     feed.producer.disconnected();
     if feed.guesses {
-        guess(alloc, feed, stage)?;
+        guess_reply(alloc, feed, stage)?;
     }
     feed.link.connect_again(alloc, server)
 }
 
-/// The producer assumes that its batch was added: its command is not sent, and the reply is made up.
-fn guess(alloc: Global, feed: &mut Feed, stage: Stage) -> Result<(), AllocError> {
+/// Passes a made-up reply to the producer, by which its last batch was added. Its request for the last id is not
+/// sent.
+fn guess_reply(alloc: Global, feed: &mut Feed, stage: Stage) -> Result<(), AllocError> {
     let known = match stage {
         Stage::Asking => return Ok(()),
         Stage::Knows(known) => known,
         Stage::Waits(batch) => batch.known.saturating_add(batch.sent),
     };
-    let mut question = Vec::new(alloc);
-    let _asked = feed
+    let mut request = Vec::new(alloc);
+    let _result = feed
         .producer
-        .request(alloc, &mut question, &mut feed.records);
-    let reply = last_id_reply(alloc, BASE.saturating_add(known))?;
-    hear_reply(alloc, feed, reply)
+        .request(alloc, &mut request, &mut feed.records);
+    let reply = make_last_id_reply(alloc, BASE.saturating_add(known))?;
+    handle_reply(alloc, feed, reply)
 }
 
-/// A reply to `XINFO STREAM` with this last id.
-fn last_id_reply(alloc: Global, last: u64) -> Result<Reply, AllocError> {
+/// Returns a reply to `XINFO STREAM` with this last id.
+fn make_last_id_reply(alloc: Global, last: u64) -> Result<Reply, AllocError> {
     let text = format!(in alloc; "*2\r\n+last-generated-id\r\n+{last}-0\r\n")?;
     match decode(alloc, text.as_str().as_bytes(), Limits::default()) {
         Ok(Decoded::Complete { reply, len: _ }) => Ok(reply),
@@ -528,9 +533,9 @@ fn last_id_reply(alloc: Global, last: u64) -> Result<Reply, AllocError> {
     }
 }
 
-// The end of the worker, which writes each entry as a line of a file.
+// The worker's end of the stream: it writes each entry as a line of a file.
 
-/// An entry that was not acknowledged for this number of turns is claimed.
+/// An entry that is pending for this number of milliseconds is claimed; a turn takes one.
 const IDLE: usize = 6;
 
 /// A handler that writes each entry as a line.
@@ -593,7 +598,7 @@ struct Drain {
     /// Whether a new worker ignores the last lines of its file.
     forgets: bool,
     /// After the next start the commit with this number fails; 0 for none.
-    failing: usize,
+    failing_commit: usize,
     /// Whether a commit that fails kills the worker.
     is_killed: bool,
     /// The number of unsynced bytes that are left in its file at the next start.
@@ -601,34 +606,34 @@ struct Drain {
     /// The number of commits that failed.
     failed: usize,
     /// The most bytes that were not synced when the worker was killed.
-    most_waited: usize,
+    max_unsynced: usize,
     /// Whether it refused a reply.
     is_refused: bool,
 }
 
-/// The settings of the worker. Scripts use only counts from 1 to 10,000.
-fn settings_of(alloc: Global, page: usize) -> Result<Settings, AllocError> {
-    claim_settings(alloc, "c", page, IDLE)
+/// Returns the settings of the worker. Scripts use only counts from 1 to 10,000.
+fn make_settings(alloc: Global, page: usize) -> Result<Settings, AllocError> {
+    make_claim_settings(alloc, "c", page, IDLE)
 }
 
 /// Opens a log over a file. A file in memory fails only if memory is refused.
-fn log_of(alloc: Global, file: TornFile) -> Result<LineLog<TornFile>, AllocError> {
+fn open_log(alloc: Global, file: TornFile) -> Result<LineLog<TornFile>, AllocError> {
     match LineLog::open(alloc, file) {
         Ok(log) => Ok(log),
         Err(_) => Err(AllocError),
     }
 }
 
-/// The log of an empty file.
-fn empty_log(alloc: Global) -> Result<LineLog<TornFile>, AllocError> {
-    log_of(alloc, TornFile::new(alloc, Vec::new(alloc)))
+/// Opens a log over an empty file.
+fn open_empty_log(alloc: Global) -> Result<LineLog<TornFile>, AllocError> {
+    open_log(alloc, TornFile::new(alloc, Vec::new(alloc)))
 }
 
-/// A new worker, its empty file and its connection.
-fn drain_of(alloc: Global, server: &mut Server, plan: Plan) -> Result<Drain, AllocError> {
-    let log = empty_log(alloc)?;
+/// Returns a new worker, its empty file and its connection.
+fn make_drain(alloc: Global, server: &mut Server, plan: Plan) -> Result<Drain, AllocError> {
+    let log = open_empty_log(alloc)?;
     let link = Link::new(alloc, server, plan.is_resp3)?;
-    let settings = settings_of(alloc, plan.page)?;
+    let settings = make_settings(alloc, plan.page)?;
     Ok(Drain {
         worker: Worker::new(alloc, settings),
         lines: Lines {
@@ -639,17 +644,17 @@ fn drain_of(alloc: Global, server: &mut Server, plan: Plan) -> Result<Drain, All
         link,
         restarts: plan.restarts,
         forgets: plan.forgets,
-        failing: 0,
+        failing_commit: 0,
         is_killed: true,
         torn: 0,
         failed: 0,
-        most_waited: 0,
+        max_unsynced: 0,
         is_refused: false,
     })
 }
 
 /// Returns the last `number` lines of the file.
-fn last_lines(
+fn read_last_lines(
     alloc: Global,
     log: &LineLog<TornFile>,
     number: usize,
@@ -660,18 +665,18 @@ fn last_lines(
     }
 }
 
-/// The lines that were committed.
-fn committed(alloc: Global, drain: &Drain) -> Result<Vec<u8>, AllocError> {
+/// Returns the lines that were committed.
+fn read_committed(alloc: Global, drain: &Drain) -> Result<Vec<u8>, AllocError> {
     let mut bytes = Vec::new(alloc);
-    for line in &last_lines(alloc, &drain.lines.log, usize::MAX)? {
+    for line in &read_last_lines(alloc, &drain.lines.log, usize::MAX)? {
         bytes.extend_from_slice(line)?;
         bytes.push(b'\n')?;
     }
     Ok(bytes)
 }
 
-/// The id of the entry of a line.
-fn id_of(alloc: Global, line: &[u8]) -> Result<String, AllocError> {
+/// Returns the id of the entry of a line.
+fn read_id(alloc: Global, line: &[u8]) -> Result<String, AllocError> {
     match entry_in(alloc, line)? {
         Some(entry) => match str::from_utf8(&entry.id) {
             Ok(id) => String::from_str(alloc, id),
@@ -682,41 +687,43 @@ fn id_of(alloc: Global, line: &[u8]) -> Result<String, AllocError> {
 }
 
 /// Returns the ids of the last `number` lines of the file.
-fn last_ids(
+fn read_last_ids(
     alloc: Global,
     log: &LineLog<TornFile>,
     number: usize,
 ) -> Result<Vec<String>, AllocError> {
     let mut ids = Vec::new(alloc);
-    for line in &last_lines(alloc, log, number)? {
-        ids.push(id_of(alloc, line)?)?;
+    for line in &read_last_lines(alloc, log, number)? {
+        ids.push(read_id(alloc, line)?)?;
     }
     Ok(ids)
 }
 
-/// A new worker that resumes from its file. No commit has more lines than a page.
-fn worker_of(alloc: Global, drain: &Drain) -> Result<Worker, AllocError> {
-    let settings = settings_of(alloc, drain.page)?;
+/// Returns a worker that first acknowledges the last lines of its file, or none if `forgets` is set. A page of lines
+/// is enough, since no commit has more.
+fn make_worker(alloc: Global, drain: &Drain) -> Result<Worker, AllocError> {
+    let settings = make_settings(alloc, drain.page)?;
     if drain.forgets {
         return Ok(Worker::new(alloc, settings));
     }
-    let ids = last_ids(alloc, &drain.lines.log, drain.page)?;
+    let ids = read_last_ids(alloc, &drain.lines.log, drain.page)?;
     Ok(Worker::resumed(alloc, settings, ids))
 }
 
-/// The number of bytes of a file that are not synced.
-fn waiting(file: &TornFile) -> Result<usize, AllocError> {
+/// Returns the number of bytes of a file that are not synced.
+fn count_unsynced(file: &TornFile) -> Result<usize, AllocError> {
     match file.len() {
         Ok(len) => Ok(len.saturating_sub(file.on_disk().len())),
         Err(_) => Err(AllocError),
     }
 }
 
-/// Takes the file out as a crash leaves it: with `torn` of the bytes that were not synced.
-fn file_left(alloc: Global, drain: &mut Drain, torn: usize) -> Result<TornFile, AllocError> {
-    let next = empty_log(alloc)?;
+/// Takes the file out of the log, as a crash leaves it. Of the bytes that were not synced, the first `torn` are
+/// kept.
+fn take_file(alloc: Global, drain: &mut Drain, torn: usize) -> Result<TornFile, AllocError> {
+    let next = open_empty_log(alloc)?;
     let mut file = mem::replace(&mut drain.lines.log, next).into_file();
-    drain.most_waited = drain.most_waited.max(waiting(&file)?);
+    drain.max_unsynced = drain.max_unsynced.max(count_unsynced(&file)?);
     let Ok(tail) = file.read_at(alloc, file.on_disk().len(), torn) else {
         return Err(AllocError);
     };
@@ -726,9 +733,9 @@ fn file_left(alloc: Global, drain: &mut Drain, torn: usize) -> Result<TornFile, 
     Ok(file)
 }
 
-/// The content of the disk after a last crash.
-fn bytes_left(alloc: Global, drain: &mut Drain) -> Result<Vec<u8>, AllocError> {
-    let file = file_left(alloc, drain, 0)?;
+/// Returns the bytes of the file after a crash that keeps only what was synced.
+fn take_bytes(alloc: Global, drain: &mut Drain) -> Result<Vec<u8>, AllocError> {
+    let file = take_file(alloc, drain, 0)?;
     file.on_disk().to_vec(alloc)
 }
 
@@ -739,20 +746,20 @@ fn start_drain_again(
     drain: &mut Drain,
 ) -> Result<(), AllocError> {
     let torn = mem::replace(&mut drain.torn, 0);
-    let failing = mem::replace(&mut drain.failing, 0);
-    let mut file = file_left(alloc, drain, torn)?;
+    let failing = mem::replace(&mut drain.failing_commit, 0);
+    let mut file = take_file(alloc, drain, torn)?;
     // (the first sync is that of opening the log)
     file.fail_sync(if failing > 0 {
         failing.saturating_add(1)
     } else {
         0
     });
-    drain.lines.log = log_of(alloc, file)?;
-    drain.worker = worker_of(alloc, drain)?;
+    drain.lines.log = open_log(alloc, file)?;
+    drain.worker = make_worker(alloc, drain)?;
     drain.link.connect_again(alloc, server)
 }
 
-/// Gives the worker a new connection; another worker starts over it if the schedule restarts them.
+/// Gives the worker a new connection. If `restarts` is set, another worker starts over it.
 fn connect_drain_again(
     alloc: Global,
     server: &mut Server,
@@ -765,35 +772,35 @@ fn connect_drain_again(
     drain.link.connect_again(alloc, server)
 }
 
-/// The worker sends its command, and takes the reply.
-fn drain_turn(
+/// Has the worker send its next command and take the reply.
+fn run_drain(
     alloc: Global,
     server: &mut Server,
     now: u64,
     drain: &mut Drain,
 ) -> Result<Turn, AllocError> {
     drain.link.pass_moment(alloc, server, now)?;
-    if !drain.link.goes_on() {
+    if !drain.link.take_step() {
         return Ok(Turn::Killed);
     }
-    let mut question = Vec::new(alloc);
-    match drain.worker.request(alloc, &mut question, &mut drain.lines) {
+    let mut request = Vec::new(alloc);
+    match drain.worker.request(alloc, &mut request, &mut drain.lines) {
         Ok(()) => {}
-        Err(RequestError::NotCommitted) => return Ok(not_committed(drain)),
+        Err(RequestError::NotCommitted) => return Ok(count_failed_commit(drain)),
         Err(_) => return Err(AllocError),
     }
-    if !drain.link.goes_on() {
+    if !drain.link.take_step() {
         return Ok(Turn::Killed);
     }
-    let turn = drain.link.exchange(alloc, server, now, &question)?;
+    let turn = drain.link.exchange(alloc, server, now, &request)?;
     if matches!(turn, Turn::Killed) {
         return Ok(turn);
     }
-    hear_entries(alloc, drain)
+    handle_entries(alloc, drain)
 }
 
-/// A commit failed: the worker is killed, or goes on.
-fn not_committed(drain: &mut Drain) -> Turn {
+/// Counts a commit that failed. The worker is killed or goes on, as `is_killed` says.
+fn count_failed_commit(drain: &mut Drain) -> Turn {
     drain.failed = drain.failed.saturating_add(1);
     if drain.is_killed {
         Turn::Killed
@@ -802,19 +809,19 @@ fn not_committed(drain: &mut Drain) -> Turn {
     }
 }
 
-/// The worker takes the reply, if it is complete.
-fn hear_entries(alloc: Global, drain: &mut Drain) -> Result<Turn, AllocError> {
-    let Some(len) = drain.link.next_len(alloc)? else {
+/// Passes the reply to the worker, if it is complete.
+fn handle_entries(alloc: Global, drain: &mut Drain) -> Result<Turn, AllocError> {
+    let Some(len) = drain.link.find_reply_len(alloc)? else {
         return Ok(Turn::Cut);
     };
-    let heard = drain.worker.answered_in_place(
+    let result = drain.worker.answered_in_place(
         alloc,
         drain.link.reply_bytes(),
         Limits::default(),
         &mut drain.lines,
     );
-    drain.link.give_out(len);
-    match heard {
+    drain.link.remove_bytes(len);
+    match result {
         Ok(Progress::GoesOn) => {}
         Ok(Progress::Stopped)
         | Err(
@@ -828,7 +835,7 @@ fn hear_entries(alloc: Global, drain: &mut Drain) -> Result<Turn, AllocError> {
         | Err(InPlaceError::Unread(WireError::Memory)) => return Err(AllocError),
         Err(_) => drain.is_refused = true,
     }
-    if drain.link.goes_on() {
+    if drain.link.take_step() {
         Ok(Turn::Done)
     } else {
         Ok(Turn::Killed)
@@ -852,11 +859,11 @@ struct World {
     kills: usize,
 }
 
-/// A new server and both ends.
-fn world_of(alloc: Global, plan: Plan) -> Result<World, AllocError> {
+/// Returns a new server and both ends.
+fn make_world(alloc: Global, plan: Plan) -> Result<World, AllocError> {
     let mut server = Server::new(alloc);
-    let feed = feed_of(alloc, &mut server, plan)?;
-    let drain = drain_of(alloc, &mut server, plan)?;
+    let feed = make_feed(alloc, &mut server, plan)?;
+    let drain = make_drain(alloc, &mut server, plan)?;
     Ok(World {
         records: plan.records,
         server,
@@ -877,10 +884,10 @@ fn count_fault(world: &mut World, turn: Turn) {
     }
 }
 
-/// A turn of the producer. It restarts or reconnects after a fault; refused memory is a fault.
-fn turn_of_producer(alloc: Global, world: &mut World) -> Result<(), AllocError> {
+/// Gives the producer a turn. It restarts or reconnects after a fault; refused memory counts as a kill.
+fn play_producer_turn(alloc: Global, world: &mut World) -> Result<(), AllocError> {
     world.now = world.now.saturating_add(1);
-    let turn = feed_turn(alloc, &mut world.server, world.now, &mut world.feed);
+    let turn = run_feed(alloc, &mut world.server, world.now, &mut world.feed);
     let turn = turn.unwrap_or(Turn::Killed);
     count_fault(world, turn);
     match turn {
@@ -890,10 +897,10 @@ fn turn_of_producer(alloc: Global, world: &mut World) -> Result<(), AllocError> 
     }
 }
 
-/// A turn of the worker. It restarts or reconnects after a fault; refused memory is a fault.
-fn turn_of_worker(alloc: Global, world: &mut World) -> Result<(), AllocError> {
+/// Gives the worker a turn. It restarts or reconnects after a fault; refused memory counts as a kill.
+fn play_worker_turn(alloc: Global, world: &mut World) -> Result<(), AllocError> {
     world.now = world.now.saturating_add(1);
-    let turn = drain_turn(alloc, &mut world.server, world.now, &mut world.drain);
+    let turn = run_drain(alloc, &mut world.server, world.now, &mut world.drain);
     let turn = turn.unwrap_or(Turn::Killed);
     count_fault(world, turn);
     match turn {
@@ -903,35 +910,35 @@ fn turn_of_worker(alloc: Global, world: &mut World) -> Result<(), AllocError> {
     }
 }
 
-/// Whether nothing is pending in the group.
+/// Returns whether nothing is pending in the group.
 fn is_nothing_pending(alloc: Global, world: &mut World) -> Result<bool, AllocError> {
-    let reply = reply_to(alloc, &mut world.server, b"XPENDING k g\r\n")?;
+    let reply = ask_server(alloc, &mut world.server, b"XPENDING k g\r\n")?;
     Ok(reply.starts_with(b"*4\r\n:0\r\n"))
 }
 
-/// Whether all records are in the stream and in the file, and nothing is pending or late.
+/// Returns whether all records are in the stream and in the file, and nothing is pending or late.
 fn is_done(alloc: Global, world: &mut World) -> Result<bool, AllocError> {
     let is_late = world.feed.link.has_late() || world.drain.link.has_late();
-    if is_late || !is_all_in(&world.feed) {
+    if is_late || !is_all_added(&world.feed) {
         return Ok(false);
     }
-    let bytes = committed(alloc, &world.drain)?;
-    if seen_in(alloc, &bytes, world.records)?.is_missing {
+    let bytes = read_committed(alloc, &world.drain)?;
+    if compare_file(alloc, &bytes, world.records)?.is_missing {
         return Ok(false);
     }
     is_nothing_pending(alloc, world)
 }
 
-/// Gives both ends turns until all is done.
-fn settle(alloc: Global, world: &mut World) -> Result<Run, AllocError> {
+/// Gives both ends turns until all is done, or `ROUNDS` times. Returns the outcome of the run.
+fn settle_world(alloc: Global, world: &mut World) -> Result<Run, AllocError> {
     for _ in 0..ROUNDS {
         if is_done(alloc, world)? {
             break;
         }
-        turn_of_producer(alloc, world)?;
-        turn_of_worker(alloc, world)?;
+        play_producer_turn(alloc, world)?;
+        play_worker_turn(alloc, world)?;
     }
-    run_of(alloc, world)
+    finish_run(alloc, world)
 }
 
 /// The outcome of a run.
@@ -940,31 +947,31 @@ struct Run {
     cuts: usize,
     kills: usize,
     failed: usize,
-    lates: usize,
+    late_arrivals: usize,
     late_records: usize,
     /// The bytes that could still pass at the producer, and at the worker.
-    left: (usize, usize),
+    remaining: (usize, usize),
     /// The most bytes that were not synced when the worker was killed.
-    most_waited: usize,
+    max_unsynced: usize,
     seen: Seen,
 }
 
-/// The outcome of the run. It is an error if an end refused a reply, which only refused memory causes.
-fn run_of(alloc: Global, world: &mut World) -> Result<Run, AllocError> {
+/// Returns the outcome of the run. It is an error if an end refused a reply, which only refused memory causes.
+fn finish_run(alloc: Global, world: &mut World) -> Result<Run, AllocError> {
     if world.feed.is_refused || world.drain.is_refused {
         return Err(AllocError);
     }
-    let bytes = bytes_left(alloc, &mut world.drain)?;
-    let seen = seen_in(alloc, &bytes, world.records)?;
-    let lates = world.feed.link.lates;
+    let bytes = take_bytes(alloc, &mut world.drain)?;
+    let seen = compare_file(alloc, &bytes, world.records)?;
+    let late_arrivals = world.feed.link.late_arrivals;
     Ok(Run {
         cuts: world.cuts,
         kills: world.kills,
         failed: world.drain.failed,
-        lates: lates.saturating_add(world.drain.link.lates),
+        late_arrivals: late_arrivals.saturating_add(world.drain.link.late_arrivals),
         late_records: world.feed.link.late_records,
-        left: (world.feed.link.faults.bytes, world.drain.link.faults.bytes),
-        most_waited: world.drain.most_waited,
+        remaining: (world.feed.link.faults.bytes, world.drain.link.faults.bytes),
+        max_unsynced: world.drain.max_unsynced,
         seen,
     })
 }
@@ -982,14 +989,14 @@ struct Seen {
     is_foreign: bool,
 }
 
-/// The line of the record with this number.
-fn line_of(alloc: Global, number: usize) -> Result<String, AllocError> {
+/// Returns the line of the record with this number.
+fn format_line(alloc: Global, number: usize) -> Result<String, AllocError> {
     let id = BASE.saturating_add(number as u64);
     format!(in alloc; "{id}-0\tn\t{number}")
 }
 
-/// Counts how often a text has a line.
-fn times_in(text: &str, line: &str) -> usize {
+/// Returns how often a text has a line.
+fn count_line(text: &str, line: &str) -> usize {
     let mut times = 0usize;
     for other in text.lines() {
         if other == line {
@@ -999,16 +1006,16 @@ fn times_in(text: &str, line: &str) -> usize {
     times
 }
 
-/// Which of the first `records` records are in a file.
-fn seen_in(alloc: Global, bytes: &[u8], records: usize) -> Result<Seen, AllocError> {
+/// Compares the lines of a file with those of the first `records` records.
+fn compare_file(alloc: Global, bytes: &[u8], records: usize) -> Result<Seen, AllocError> {
     let text = str::from_utf8(bytes).unwrap_or("");
     let mut wanted = String::new(alloc);
     let mut known = 0usize;
     let mut is_twice = false;
     let mut is_missing = false;
     for index in 0..records {
-        let line = line_of(alloc, index.saturating_add(1))?;
-        let times = times_in(text, line.as_str());
+        let line = format_line(alloc, index.saturating_add(1))?;
+        let times = count_line(text, line.as_str());
         known = known.saturating_add(times);
         is_twice = is_twice || times > 1;
         is_missing = is_missing || times == 0;
@@ -1032,7 +1039,7 @@ struct Tally {
     cuts: usize,
     kills: usize,
     failed: usize,
-    lates: usize,
+    late_arrivals: usize,
     late_records: usize,
     differ: usize,
     twice: usize,
@@ -1040,27 +1047,27 @@ struct Tally {
     foreign: usize,
 }
 
-/// Adds one if `is_so`.
-fn count(number: &mut usize, is_so: bool) {
+/// Adds one to `number` if `is_so`.
+fn count_if(number: &mut usize, is_so: bool) {
     if is_so {
         *number = number.saturating_add(1);
     }
 }
 
-/// Adds `more`.
-fn sum(number: &mut usize, more: usize) {
+/// Adds `more` to `number`, up to the largest number.
+fn add_to(number: &mut usize, more: usize) {
     *number = number.saturating_add(more);
 }
 
 impl Tally {
-    /// The sum of no runs.
+    /// Returns the sum of no runs.
     fn new() -> Tally {
         Tally {
             runs: 0,
             cuts: 0,
             kills: 0,
             failed: 0,
-            lates: 0,
+            late_arrivals: 0,
             late_records: 0,
             differ: 0,
             twice: 0,
@@ -1071,29 +1078,29 @@ impl Tally {
 
     /// Adds a run.
     fn add(&mut self, run: Run) {
-        count(&mut self.runs, true);
-        sum(&mut self.cuts, run.cuts);
-        sum(&mut self.kills, run.kills);
-        sum(&mut self.failed, run.failed);
-        sum(&mut self.lates, run.lates);
-        sum(&mut self.late_records, run.late_records);
-        count(&mut self.differ, !run.seen.is_same);
-        count(&mut self.twice, run.seen.is_twice);
-        count(&mut self.missing, run.seen.is_missing);
-        count(&mut self.foreign, run.seen.is_foreign);
+        count_if(&mut self.runs, true);
+        add_to(&mut self.cuts, run.cuts);
+        add_to(&mut self.kills, run.kills);
+        add_to(&mut self.failed, run.failed);
+        add_to(&mut self.late_arrivals, run.late_arrivals);
+        add_to(&mut self.late_records, run.late_records);
+        count_if(&mut self.differ, !run.seen.is_same);
+        count_if(&mut self.twice, run.seen.is_twice);
+        count_if(&mut self.missing, run.seen.is_missing);
+        count_if(&mut self.foreign, run.seen.is_foreign);
     }
 
-    /// The counts of runs and faults, as text.
-    fn faults_text(&self, alloc: Global) -> Result<String, AllocError> {
+    /// Returns the counts of runs and faults, as text.
+    fn format_faults(&self, alloc: Global) -> Result<String, AllocError> {
         format!(in alloc;
             "{} runs: {} cuts, {} kills, {} failed commits; {} times bytes came late, and {} times they added records",
-            self.runs, self.cuts, self.kills, self.failed, self.lates, self.late_records
+            self.runs, self.cuts, self.kills, self.failed, self.late_arrivals, self.late_records
         )
     }
 
-    /// The counts of runs and faults, and of the runs whose file differs from the records, as text.
-    fn text(&self, alloc: Global) -> Result<String, AllocError> {
-        let faults = self.faults_text(alloc)?;
+    /// Returns the counts of runs and faults, and of the runs whose file differs from the records, as text.
+    fn to_text(&self, alloc: Global) -> Result<String, AllocError> {
+        let faults = self.format_faults(alloc)?;
         format!(in alloc;
             "{}; {} differ: {} have a line twice, {} lack one, {} have a foreign one",
             faults.as_str(),
@@ -1130,7 +1137,7 @@ enum Start {
 
 /// Makes a run with this start.
 fn make_run(alloc: Global, plan: Plan, start: Start) -> Result<Run, AllocError> {
-    let mut world = world_of(alloc, plan)?;
+    let mut world = make_world(alloc, plan)?;
     run_in(alloc, &mut world, start)
 }
 
@@ -1139,39 +1146,40 @@ fn run_in(alloc: Global, world: &mut World, start: Start) -> Result<Run, AllocEr
     match start {
         Start::Faults(End::Producer, faults) => world.feed.link.faults = faults,
         Start::Faults(End::Worker, faults) => world.drain.link.faults = faults,
-        Start::Torn(commit, torn) => plant_torn(alloc, world, commit, torn)?,
+        Start::Torn(commit, torn) => set_torn_commit(alloc, world, commit, torn)?,
         Start::Random(seed) => make_moves(alloc, world, seed)?,
     }
-    settle(alloc, world)
+    settle_world(alloc, world)
 }
 
-/// Makes this commit fail after a start of the worker, so that this number of its bytes is left.
-fn plant_torn(
+/// Restarts the worker. Its commit with this number will fail, and leave the first `torn` bytes that were not
+/// synced.
+fn set_torn_commit(
     alloc: Global,
     world: &mut World,
     commit: usize,
     torn: usize,
 ) -> Result<(), AllocError> {
-    world.drain.failing = commit;
+    world.drain.failing_commit = commit;
     start_drain_again(alloc, &mut world.server, &mut world.drain)?;
     world.drain.torn = torn;
     Ok(())
 }
 
-/// Whether the file has all records after a run with no fault but refused memory.
-fn plays_calmly(alloc: Global, plan: Plan) -> Result<bool, AllocError> {
+/// Returns whether the file has all records in order after a run with no fault but refused memory.
+fn is_same_without_fault(alloc: Global, plan: Plan) -> Result<bool, AllocError> {
     let run = make_run(alloc, plan, Start::Faults(End::Producer, CALM))?;
     Ok(run.seen.is_same)
 }
 
 /// Counts the bytes that an end sends and receives in a run with no fault.
-fn session_len(alloc: Global, plan: Plan, end: End) -> Result<usize, AllocError> {
+fn count_session_bytes(alloc: Global, plan: Plan, end: End) -> Result<usize, AllocError> {
     let run = make_run(alloc, plan, Start::Faults(End::Producer, CALM))?;
-    let left = match end {
-        End::Producer => run.left.0,
-        End::Worker => run.left.1,
+    let remaining = match end {
+        End::Producer => run.remaining.0,
+        End::Worker => run.remaining.1,
     };
-    Ok(NEVER - left)
+    Ok(NEVER - remaining)
 }
 
 /// Adds a run for each byte: the connection of the end breaks after it, and the unsent bytes arrive
@@ -1183,7 +1191,7 @@ fn add_cuts(
     delay: usize,
     tally: &mut Tally,
 ) -> Result<(), AllocError> {
-    for bytes in 0..session_len(alloc, plan, end)? {
+    for bytes in 0..count_session_bytes(alloc, plan, end)? {
         let faults = Faults {
             bytes,
             steps: NEVER,
@@ -1194,16 +1202,16 @@ fn add_cuts(
     Ok(())
 }
 
-/// Runs in which the connection of the end breaks after each byte.
-fn cuts(alloc: Global, plan: Plan, end: End) -> Result<Tally, AllocError> {
+/// Makes the runs in which the connection of the end breaks after each byte in turn.
+fn run_cuts(alloc: Global, plan: Plan, end: End) -> Result<Tally, AllocError> {
     let mut tally = Tally::new();
     add_cuts(alloc, plan, end, NEVER, &mut tally)?;
     Ok(tally)
 }
 
-/// Runs in which the connection of the end breaks after each byte, and the unsent bytes arrive 0, 1, .. 5
-/// moments after the next connection starts.
-fn lates(alloc: Global, plan: Plan, end: End) -> Result<Tally, AllocError> {
+/// Makes the runs in which the connection of the end breaks after each byte in turn. The unsent bytes arrive 0, 1,
+/// .. 5 moments after the next connection starts.
+fn run_late(alloc: Global, plan: Plan, end: End) -> Result<Tally, AllocError> {
     let mut tally = Tally::new();
     for delay in 0..6usize {
         add_cuts(alloc, plan, end, delay, &mut tally)?;
@@ -1211,8 +1219,8 @@ fn lates(alloc: Global, plan: Plan, end: End) -> Result<Tally, AllocError> {
     Ok(tally)
 }
 
-/// Runs in which the end is killed at each of its steps.
-fn crashes(alloc: Global, plan: Plan, end: End) -> Result<Tally, AllocError> {
+/// Makes the runs in which the end is killed at each of its steps in turn.
+fn run_crashes(alloc: Global, plan: Plan, end: End) -> Result<Tally, AllocError> {
     let mut tally = Tally::new();
     for steps in 0..LARGEST {
         let faults = Faults {
@@ -1243,15 +1251,15 @@ fn add_torn(
             return Ok(false);
         }
         tally.add(run);
-        if torn >= run.most_waited {
+        if torn >= run.max_unsynced {
             break;
         }
     }
     Ok(true)
 }
 
-/// Runs in which the worker is killed within each commit, and its file is left with each length.
-fn torn_files(alloc: Global, plan: Plan) -> Result<Tally, AllocError> {
+/// Makes the runs in which the worker is killed within each commit, and its file is left with each length.
+fn run_torn_files(alloc: Global, plan: Plan) -> Result<Tally, AllocError> {
     let mut tally = Tally::new();
     for commit in 1..LARGEST {
         if !add_torn(alloc, plan, commit, &mut tally)? {
@@ -1263,11 +1271,11 @@ fn torn_files(alloc: Global, plan: Plan) -> Result<Tally, AllocError> {
 
 // Random schedules.
 
-/// The number of turns of a schedule before the last fault.
+/// The number of moves of a schedule. After them no new fault is set.
 const MOVES: usize = 24;
 
-/// A number below a limit, from the bits of a state from `bit` on.
-fn drawn(state: u64, bit: u32, limit: u64) -> usize {
+/// Returns a number below `limit`, from the bits of `state` that are not below `bit`.
+fn draw_number(state: u64, bit: u32, limit: u64) -> usize {
     let bits = if bit < 64 { state >> bit } else { 0 };
     if limit == 0 {
         return 0;
@@ -1275,13 +1283,13 @@ fn drawn(state: u64, bit: u32, limit: u64) -> usize {
     usize::try_from(bits % limit).unwrap_or(0)
 }
 
-/// The plan of the schedule with this seed.
-fn plan_of_seed(plan: Plan, seed: u64) -> Plan {
-    let state = next(next(seed));
+/// Returns the plan of the schedule with this seed.
+fn draw_plan(plan: Plan, seed: u64) -> Plan {
+    let state = draw_next(draw_next(seed));
     Plan {
-        records: drawn(state, 33, 9).saturating_add(1),
-        batch: drawn(state, 40, 4).saturating_add(1),
-        page: drawn(state, 50, 4).saturating_add(1),
+        records: draw_number(state, 33, 9).saturating_add(1),
+        batch: draw_number(state, 40, 4).saturating_add(1),
+        page: draw_number(state, 50, 4).saturating_add(1),
         is_resp3: seed % 2 == 1,
         restarts: plan.restarts,
         forgets: plan.forgets,
@@ -1289,66 +1297,71 @@ fn plan_of_seed(plan: Plan, seed: u64) -> Plan {
     }
 }
 
-/// The faults that a state selects; most states select none.
-fn faults_of(state: u64) -> Faults {
-    let delay = drawn(state, 20, 9);
+/// Returns the faults that a state selects; half of all states select none.
+fn draw_faults(state: u64) -> Faults {
+    let delay = draw_number(state, 20, 9);
     let mut faults = CALM;
     if delay < 6 {
         faults.delay = delay;
     }
-    match drawn(state, 33, 8) {
-        0 | 1 | 2 => faults.bytes = drawn(state, 45, 400),
-        3 => faults.steps = drawn(state, 45, 8),
+    match draw_number(state, 33, 8) {
+        0 | 1 | 2 => faults.bytes = draw_number(state, 45, 400),
+        3 => faults.steps = draw_number(state, 45, 8),
         _ => {}
     }
     faults
 }
 
-/// In some states, makes a commit of the worker fail after its next start.
-fn plant_failing(world: &mut World, state: u64) {
+/// For half of all states, makes a commit of the worker fail after its next start.
+fn set_failing_commit(world: &mut World, state: u64) {
     let drain = &mut world.drain;
-    if drawn(state, 36, 2) == 0 {
-        drain.failing = drawn(state, 40, 3).saturating_add(1);
-        drain.is_killed = drawn(state, 44, 4) > 0;
-        drain.torn = drawn(state, 50, 60);
+    if draw_number(state, 36, 2) == 0 {
+        drain.failing_commit = draw_number(state, 40, 3).saturating_add(1);
+        drain.is_killed = draw_number(state, 44, 4) > 0;
+        drain.torn = draw_number(state, 50, 60);
     }
 }
 
 /// Makes the move that a state selects: an end that has no faults gets some, and has a turn.
 fn make_move(alloc: Global, world: &mut World, state: u64) -> Result<(), AllocError> {
-    let restarts = drawn(state, 38, 2) == 0;
-    if drawn(state, 60, 2) == 0 {
+    let restarts = draw_number(state, 38, 2) == 0;
+    if draw_number(state, 60, 2) == 0 {
         world.feed.restarts = restarts;
         if world.feed.link.is_calm() {
-            world.feed.link.faults = faults_of(state);
+            world.feed.link.faults = draw_faults(state);
         }
-        return turn_of_producer(alloc, world);
+        return play_producer_turn(alloc, world);
     }
     world.drain.restarts = restarts;
     if world.drain.link.is_calm() {
-        world.drain.link.faults = faults_of(state);
+        world.drain.link.faults = draw_faults(state);
         world.drain.link.faults.delay = NEVER;
-        plant_failing(world, state);
+        set_failing_commit(world, state);
     }
-    turn_of_worker(alloc, world)
+    play_worker_turn(alloc, world)
 }
 
 /// Makes the moves of the schedule with this seed.
 fn make_moves(alloc: Global, world: &mut World, seed: u64) -> Result<(), AllocError> {
-    let mut state = next(seed);
+    let mut state = draw_next(seed);
     for _ in 0..MOVES {
-        state = next(state);
+        state = draw_next(state);
         make_move(alloc, world, state)?;
     }
     Ok(())
 }
 
-/// Runs `count` schedules, from this seed on.
-fn schedules(alloc: Global, plan: Plan, seed: usize, count: usize) -> Result<Tally, AllocError> {
+/// Makes the runs of `count` schedules, from this seed on.
+fn run_schedules(
+    alloc: Global,
+    plan: Plan,
+    seed: usize,
+    count: usize,
+) -> Result<Tally, AllocError> {
     let mut tally = Tally::new();
     for number in 0..count {
         let seed = seed.saturating_add(number) as u64;
-        tally.add(make_run(alloc, plan_of_seed(plan, seed), Start::Random(seed))?);
+        tally.add(make_run(alloc, draw_plan(plan, seed), Start::Random(seed))?);
     }
     Ok(tally)
 }

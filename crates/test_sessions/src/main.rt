@@ -1,19 +1,18 @@
-//! Plays the scripts on its standard input, and prints what happens: commands to a server in memory, the
-//! steps of a worker or of a producer, a connection whose reader or writer fails, workers over a
-//! server whose connections break.
+//! Plays the scripts on standard input, and prints a transcript of each. Some have commands to a server in memory,
+//! or steps of a worker or of a producer. In others the reader or the writer of a connection fails, or the
+//! connections of workers to a server break.
 //!
-//! A script ends with an empty line. Its first line selects what is played; a line before it that
-//! begins with `#` is its title. Bytes are written as text, with `\r` and `\n` for the ends of lines, and
-//! `\xff` for any byte:
+//! An empty line ends a script. The first line selects what is played; a line before it that begins with `#`
+//! is the title. Bytes are written as text, with `\r` and `\n` for the ends of lines, and `\xff` for any byte:
 //!
 //! | First line | Each other line |
 //! |---|---|
-//! | `server 2` | a command; 3 for RESP3 |
+//! | `server 2` | a command; `server 3` is over RESP3 |
 //! | `bytes` | all bytes that a client sends to a server of its own |
 //! | `worker` and settings | a step of a worker, see `workers` |
 //! | `letters` | `give` and an entry, or the bytes of the reply to the next command |
 //! | `connection` and sizes | a step of a connection, see `workers::connection`; once for reads of each size |
-//! | `ends 7` | bytes that arrive; a worker makes 7 rounds, wherever the bytes end |
+//! | `ends 7` | bytes that arrive; a worker makes 7 rounds over all of them, and over each proper prefix |
 //! | `streams 3 8 a b` | a command; then a worker for each stream, 8 turns each |
 //! | `cuts 2`, `crashes 2 60`, `gone 2 30`, `schedules 1000` | none, see `together` |
 //! | `settles 2 3` | none; two workers handle 3 entries |
@@ -21,7 +20,7 @@
 //! | `producer 100 2 3` | a step of a producer, see `producer` |
 //! | `both-ends` | runs of a producer and a worker over one server, see `both_ends` |
 //!
-//! It exits with 0, or with 2 if memory ran out, or standard input or output failed.
+//! The exit status is 0, or 2 if memory runs out, or if standard input or output fails.
 #![tactic(auto)]
 
 mod both_ends;
@@ -39,7 +38,7 @@ use std::io::{Read, Write};
 use std::process::ExitCode;
 use worker::{MakeGroup, Settings};
 
-/// Memory ran out, or standard input or output failed.
+/// The exit status if memory runs out, or if standard input or output fails.
 const FAILED: u8 = 2;
 
 fn main(rt: HostRuntime) -> ExitCode {
@@ -64,7 +63,7 @@ fn play_all(rt: &HostRuntime) -> io::Result<()> {
     output.flush()
 }
 
-/// Plays a script after its title.
+/// Prints the title of a script, if it has one, and plays the rest.
 fn play_titled(alloc: Global, script: &str, out: &mut String) -> Result<(), AllocError> {
     if let Some((title, rest)) = script.split_once('\n') {
         if title.starts_with('#') {
@@ -75,10 +74,10 @@ fn play_titled(alloc: Global, script: &str, out: &mut String) -> Result<(), Allo
     play(alloc, script, out)
 }
 
-/// Plays a script.
+/// Plays a script that has no title.
 fn play(alloc: Global, script: &str, out: &mut String) -> Result<(), AllocError> {
-    let (head, lines) = parted(script, '\n');
-    let (name, words) = parted(head, ' ');
+    let (head, lines) = split_at_mark(script, '\n');
+    let (name, words) = split_at_mark(head, ' ');
     match name {
         "server" => play_commands(alloc, words, lines, out),
         "bytes" => play_bytes(alloc, lines, out),
@@ -86,7 +85,7 @@ fn play(alloc: Global, script: &str, out: &mut String) -> Result<(), AllocError>
     }
 }
 
-/// Plays a script by the module that has its name.
+/// Plays a script with the module that knows its name.
 fn play_module(
     alloc: Global,
     name: &str,
@@ -110,16 +109,16 @@ fn play_module(
 
 // The texts of scripts and of transcripts.
 
-/// Returns the text before and after the first mark; the whole text and an empty one if there is no mark.
-fn parted(text: &str, mark: char) -> (&str, &str) {
+/// Splits a text at the first `mark`. Returns the whole text and an empty one if there is none.
+fn split_at_mark(text: &str, mark: char) -> (&str, &str) {
     match text.split_once(mark) {
         Some(parts) => parts,
         None => (text, ""),
     }
 }
 
-/// The settings of a worker of the group `g`. Scripts have no empty name; a script with one is not played.
-fn settings_for(alloc: Global, key: &str, consumer: &str) -> Result<Settings, AllocError> {
+/// Returns the settings of a worker of the group `g`. An empty name is an error, and no script has one.
+fn make_settings(alloc: Global, key: &str, consumer: &str) -> Result<Settings, AllocError> {
     let settings = Settings::new(
         String::from_str(alloc, key)?,
         String::from_str(alloc, "g")?,
@@ -131,21 +130,22 @@ fn settings_for(alloc: Global, key: &str, consumer: &str) -> Result<Settings, Al
     }
 }
 
-/// The settings of a worker of the group `g` that makes the group, from the first entry on.
-fn group_settings(alloc: Global, key: &str, consumer: &str) -> Result<Settings, AllocError> {
-    let mut settings = settings_for(alloc, key, consumer)?;
+/// Returns the settings of a worker that creates the group `g` and reads from the first entry on.
+fn make_group_settings(alloc: Global, key: &str, consumer: &str) -> Result<Settings, AllocError> {
+    let mut settings = make_settings(alloc, key, consumer)?;
     settings.set_make_group(MakeGroup::FromTheFirst);
     Ok(settings)
 }
 
-/// The same for the stream `k`, with this count, every second read a claim, and this idle time.
-fn claim_settings(
+/// Returns the settings of a worker of the stream `k` that creates the group. After every two reads of new entries
+/// it claims those that were idle for `idle` milliseconds.
+fn make_claim_settings(
     alloc: Global,
     consumer: &str,
     count: usize,
     idle: usize,
 ) -> Result<Settings, AllocError> {
-    let mut settings = group_settings(alloc, "k", consumer)?;
+    let mut settings = make_group_settings(alloc, "k", consumer)?;
     settings.set_count(count).unwrap_or(());
     settings.set_every(2);
     settings.set_min_idle(idle);
@@ -153,12 +153,12 @@ fn claim_settings(
 }
 
 /// Parses a word as a number; 0 if it is not one.
-fn number_of(word: &str) -> usize {
+fn parse_number(word: &str) -> usize {
     word.parse::<usize>().unwrap_or(0)
 }
 
-/// The next number of a pseudo-random sequence.
-fn next(state: u64) -> u64 {
+/// Returns the next number of a pseudo-random sequence.
+fn draw_next(state: u64) -> u64 {
     state
         .wrapping_mul(6_364_136_223_846_793_005)
         .wrapping_add(1_442_695_040_888_963_407)
@@ -170,34 +170,37 @@ fn push_line(out: &mut String, line: &str) -> Result<(), AllocError> {
     out.push('\n')
 }
 
-/// Appends a command or a step, and its result if that is not empty.
-fn push_exchange(out: &mut String, asked: &str, answer: &str) -> Result<(), AllocError> {
+/// Appends a command or a step after `> `, and its result on the next line if that is not empty.
+fn push_exchange(out: &mut String, step: &str, outcome: &str) -> Result<(), AllocError> {
     out.push_str("> ")?;
-    push_line(out, asked)?;
-    if answer.is_empty() {
+    push_line(out, step)?;
+    if outcome.is_empty() {
         return Ok(());
     }
-    push_line(out, answer)
+    push_line(out, outcome)
 }
 
-/// The bytes of a text of a script: `\r` and `\n` are ends of lines, and `\xff` is any byte.
-fn bytes_of(alloc: Global, text: &str) -> Result<Vec<u8>, AllocError> {
+/// Returns the bytes of a text in the notation of scripts: `\r` and `\n` are ends of lines, and `\xff` is any byte.
+fn parse_bytes(alloc: Global, text: &str) -> Result<Vec<u8>, AllocError> {
     let mut bytes = Vec::new(alloc);
     let mut rest = text.as_bytes();
     for _ in 0..text.len() {
-        let Some((byte, behind)) = first_byte(rest) else {
+        let Some((byte, after)) = split_first_byte(rest) else {
             return Ok(bytes);
         };
         bytes.push(byte)?;
-        rest = behind;
+        rest = after;
     }
     Ok(bytes)
 }
 
-/// Returns the first byte of a text of a script, and the rest of the text.
-fn first_byte(text: &[u8]) -> Option<(u8, &[u8])> {
+/// Returns the first byte of a text in the notation of scripts, and the rest. `None` if the text is empty.
+fn split_first_byte(text: &[u8]) -> Option<(u8, &[u8])> {
     match text {
-        [b'\\', b'x', high, low, rest @ ..] => Some((digit_of(*high) << 4 | digit_of(*low), rest)),
+        [b'\\', b'x', high, low, rest @ ..] => Some((
+            parse_hex_digit(*high) << 4 | parse_hex_digit(*low),
+            rest,
+        )),
         [b'\\', b'r', rest @ ..] => Some((b'\r', rest)),
         [b'\\', b'n', rest @ ..] => Some((b'\n', rest)),
         [b'\\', byte, rest @ ..] => Some((*byte, rest)),
@@ -206,8 +209,8 @@ fn first_byte(text: &[u8]) -> Option<(u8, &[u8])> {
     }
 }
 
-/// The value of a hexadecimal digit, and 0 for another byte.
-fn digit_of(byte: u8) -> u8 {
+/// Returns the value of a lowercase hexadecimal digit; 0 for any other byte.
+fn parse_hex_digit(byte: u8) -> u8 {
     match byte {
         b'0'..=b'9' => byte - b'0',
         b'a'..=b'f' => byte - b'a' + 10,
@@ -228,14 +231,14 @@ fn push_bytes(out: &mut String, bytes: &[u8]) -> Result<(), AllocError> {
     Ok(())
 }
 
-/// Bytes in the notation of scripts.
-fn text_of(alloc: Global, bytes: &[u8]) -> Result<String, AllocError> {
+/// Returns bytes in the notation of scripts.
+fn escape_bytes(alloc: Global, bytes: &[u8]) -> Result<String, AllocError> {
     let mut text = String::new(alloc);
     push_bytes(&mut text, bytes)?;
     Ok(text)
 }
 
-/// Appends the words of a command, with a blank before each but the first; nothing if it is no command.
+/// Appends the words of a command, with a blank between them; nothing if the reply is no command.
 fn push_command(alloc: Global, out: &mut String, command: Reply) -> Result<(), AllocError> {
     let Some(words) = command_words(alloc, command)? else {
         return Ok(());
@@ -249,8 +252,9 @@ fn push_command(alloc: Global, out: &mut String, command: Reply) -> Result<(), A
     Ok(())
 }
 
-/// Commands as text, with ` | ` after each but the last; then the bytes that are no complete command.
-fn commands_text(alloc: Global, bytes: &[u8]) -> Result<String, AllocError> {
+/// Returns the commands in these bytes as text, with ` | ` between them. Bytes that are no complete command come
+/// last.
+fn format_commands(alloc: Global, bytes: &[u8]) -> Result<String, AllocError> {
     let mut text = String::new(alloc);
     let mut rest = bytes;
     for _ in 0..bytes.len() {
@@ -273,17 +277,17 @@ fn commands_text(alloc: Global, bytes: &[u8]) -> Result<String, AllocError> {
 
 // A server in memory.
 
-/// The protocol of this number.
-fn protocol_of(word: &str) -> Protocol {
-    if number_of(word) == 3 {
+/// Returns RESP3 if the word is `3`, and RESP2 otherwise.
+fn parse_protocol(word: &str) -> Protocol {
+    if parse_number(word) == 3 {
         Protocol::Resp3
     } else {
         Protocol::Resp2
     }
 }
 
-/// The bytes of the reply to a command.
-fn answered(
+/// Executes a command, and returns the bytes of the reply.
+fn run_command(
     alloc: Global,
     server: &mut Server,
     now: u64,
@@ -296,8 +300,8 @@ fn answered(
     Ok(bytes)
 }
 
-/// The bytes of the reply to the command of a line.
-fn told(
+/// Executes the command of a line, and returns the bytes of the reply.
+fn run_line(
     alloc: Global,
     server: &mut Server,
     session: &mut Session,
@@ -305,13 +309,13 @@ fn told(
 ) -> Result<Vec<u8>, AllocError> {
     let mut words = Vec::new(alloc);
     for word in line.split(' ') {
-        words.push(bytes_of(alloc, word)?)?;
+        words.push(parse_bytes(alloc, word)?)?;
     }
-    answered(alloc, server, 0, session, words)
+    run_command(alloc, server, 0, session, words)
 }
 
-/// Runs commands on a server, and prints the replies.
-fn tell_all(
+/// Executes the command of each line, and prints the replies.
+fn run_lines(
     alloc: Global,
     server: &mut Server,
     session: &mut Session,
@@ -319,13 +323,13 @@ fn tell_all(
     out: &mut String,
 ) -> Result<(), AllocError> {
     for line in lines.lines() {
-        let answer = told(alloc, server, session, line)?;
-        push_exchange(out, line, text_of(alloc, &answer)?.as_str())?;
+        let reply = run_line(alloc, server, session, line)?;
+        push_exchange(out, line, escape_bytes(alloc, &reply)?.as_str())?;
     }
     Ok(())
 }
 
-/// Runs commands on a server of its own.
+/// Executes commands on a new server.
 fn play_commands(
     alloc: Global,
     words: &str,
@@ -333,28 +337,28 @@ fn play_commands(
     out: &mut String,
 ) -> Result<(), AllocError> {
     let mut server = Server::new(alloc);
-    let mut session = Session::new(alloc, protocol_of(words));
-    tell_all(alloc, &mut server, &mut session, lines, out)
+    let mut session = Session::new(alloc, parse_protocol(words));
+    run_lines(alloc, &mut server, &mut session, lines, out)
 }
 
-/// The replies to a client that sends these bytes to a server of its own.
-fn answers_to(alloc: Global, bytes: &[u8]) -> Result<String, AllocError> {
+/// Returns the replies to a client that sends these bytes to a new server.
+fn serve_client(alloc: Global, bytes: &[u8]) -> Result<String, AllocError> {
     let mut server = Server::new(alloc);
     let mut client = Client::new(alloc);
-    let mut answers = Vec::new(alloc);
-    client.answer(alloc, &mut server, 0, bytes, &mut answers)?;
-    let mut text = text_of(alloc, &answers)?;
+    let mut replies = Vec::new(alloc);
+    client.answer(alloc, &mut server, 0, bytes, &mut replies)?;
+    let mut text = escape_bytes(alloc, &replies)?;
     if client.has_ended() {
         text.push_str(" and the connection ends")?;
     }
     Ok(text)
 }
 
-/// Plays clients, each with a server of its own.
+/// Plays a client for each line, each with a new server.
 fn play_bytes(alloc: Global, lines: &str, out: &mut String) -> Result<(), AllocError> {
     for line in lines.lines() {
-        let answer = answers_to(alloc, &bytes_of(alloc, line)?)?;
-        push_exchange(out, line, answer.as_str())?;
+        let replies = serve_client(alloc, &parse_bytes(alloc, line)?)?;
+        push_exchange(out, line, replies.as_str())?;
     }
     Ok(())
 }

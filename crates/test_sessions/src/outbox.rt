@@ -3,11 +3,11 @@
 //! | Line | What happens |
 //! |---|---|
 //! | `rounds 5` | 5 rounds, up to the first that fails |
-//! | `send` | the entries in the outbox are sent |
+//! | `send` | the commands in the outbox are sent |
 //! | `commit` | the handler commits |
 //! | `killed` | the worker and its outbox are dropped, and another worker starts |
 //! | `starts 3` | another worker starts, which gives entries up after 3 deliveries, see `poison` |
-//! | another | a command to the server |
+//! | any other | a command to the server |
 //!
 //! Each line has a connection of its own. With `writes 170` at its end the connection breaks after 170 bytes
 //! were written, and with `reads 136` after 136 bytes were read.
@@ -21,9 +21,9 @@ ghost use Rattle.test_sessions.specs.Scripts.{is_outbox_script};
 mod poison;
 mod work;
 
-use crate::outbox::work::Tells;
-use crate::workers::Doer;
-use crate::{group_settings, number_of, parted, push_exchange, text_of};
+use crate::outbox::work::IdPoster;
+use crate::workers::ScriptHandler;
+use crate::{escape_bytes, make_group_settings, parse_number, push_exchange, split_at_mark};
 use redis_connection::{Connection, ConnectionError};
 use redis_wire::Limits;
 use server_commands::{Loopback, Server};
@@ -36,21 +36,21 @@ use worker::{Handler, NotCommitted, RequestError, RunError, Worker};
 #[derive(Drop)]
 struct Side {
     worker: Worker,
-    posting: Posting<Tells>,
-    doer: Doer,
+    posting: Posting<IdPoster>,
+    handler: ScriptHandler,
 }
 
-/// A new worker.
-fn begun(alloc: Global) -> Result<Side, AllocError> {
-    let settings = group_settings(alloc, "k", "ann")?;
+/// Returns a new worker, with an empty outbox and new handlers.
+fn make_side(alloc: Global) -> Result<Side, AllocError> {
+    let settings = make_group_settings(alloc, "k", "ann")?;
     Ok(Side {
         worker: Worker::new(alloc, settings),
-        posting: Posting::new(alloc, Tells::new()),
-        doer: Doer::new(alloc),
+        posting: Posting::new(alloc, IdPoster::new()),
+        handler: ScriptHandler::new(alloc),
     })
 }
 
-/// Plays a script of this name. Returns whether it is one of this module.
+/// Plays the script if this module has one of this name. Returns whether it has.
 pub fn play(alloc: Global, name: &str, lines: &str, out: &mut String) -> Result<bool, AllocError>
     ensures { IfOk result (λ played. played ≡ is_outbox_script name.now) }
 {
@@ -78,7 +78,7 @@ fn play_over(
     lines: &str,
     out: &mut String,
 ) -> Result<(), AllocError> {
-    let mut side = begun(alloc)?;
+    let mut side = make_side(alloc)?;
     play_lines(alloc, loopback, &mut side, lines, out)
 }
 
@@ -91,14 +91,14 @@ fn play_lines(
     out: &mut String,
 ) -> Result<(), AllocError> {
     for line in lines.lines() {
-        let text = done(alloc, loopback, side, line)?;
+        let text = do_line(alloc, loopback, side, line)?;
         push_exchange(out, line, text.as_str())?;
     }
     Ok(())
 }
 
-/// Does what a line asks for, over a new connection.
-fn done(
+/// Executes a line over a new connection, and returns its outcome.
+fn do_line(
     alloc: Global,
     loopback: &Loopback,
     side: &mut Side,
@@ -108,16 +108,16 @@ fn done(
         return Err(AllocError);
     };
     if let Some((_rounds, bytes)) = line.split_once(" reads ") {
-        reader.break_after(number_of(bytes));
+        reader.break_after(parse_number(bytes));
     }
     if let Some((_rounds, bytes)) = line.split_once(" writes ") {
-        writer.break_after(number_of(bytes));
+        writer.break_after(parse_number(bytes));
     }
-    done_between(alloc, reader, writer, side, line)
+    do_line_between(alloc, reader, writer, side, line)
 }
 
-/// Does what a line asks for, over a connection of these ends.
-fn done_between<R: Read + Drop, W: Write + Drop>(
+/// Executes a line over a connection of this reader and writer.
+fn do_line_between<R: Read + Drop, W: Write + Drop>(
     alloc: Global,
     reader: R,
     writer: W,
@@ -125,49 +125,54 @@ fn done_between<R: Read + Drop, W: Write + Drop>(
     line: &str,
 ) -> Result<String, AllocError> {
     let mut connection = Connection::new(alloc, reader, writer, Limits::default())?;
-    done_over(alloc, &mut connection, side, line)
+    do_line_over(alloc, &mut connection, side, line)
 }
 
-/// Does what a line asks for, over a connection.
-fn done_over<R: Read + Drop, W: Write + Drop>(
+/// Executes a line over a connection.
+fn do_line_over<R: Read + Drop, W: Write + Drop>(
     alloc: Global,
     connection: &mut Connection<R, W>,
     side: &mut Side,
     line: &str,
 ) -> Result<String, AllocError> {
-    let (verb, words) = parted(line, ' ');
+    let (verb, words) = split_at_mark(line, ' ');
     match verb {
-        "rounds" => turned(alloc, connection, side, number_of(parted(words, ' ').0)),
-        "send" => sent(alloc, connection, side),
-        "commit" => committed(alloc, side),
-        "starts" => poison::started(alloc, connection, &mut side.doer, number_of(words)),
+        "rounds" => make_rounds(
+            alloc,
+            connection,
+            side,
+            parse_number(split_at_mark(words, ' ').0),
+        ),
+        "send" => send_outbox(alloc, connection, side),
+        "commit" => commit_work(alloc, side),
+        "starts" => poison::start_worker(alloc, connection, &mut side.handler, parse_number(words)),
         "killed" => {
-            *side = begun(alloc)?;
+            *side = make_side(alloc)?;
             String::from_str(alloc, "another begins")
         }
-        _ => answered(alloc, connection, line),
+        _ => ask_server(alloc, connection, line),
     }
 }
 
-/// Makes this number of rounds, up to the first that fails.
-fn turned<R: Read + Drop, W: Write + Drop>(
+/// Makes this number of rounds, up to the first that fails. Returns the counts of rounds and commits as text.
+fn make_rounds<R: Read + Drop, W: Write + Drop>(
     alloc: Global,
     connection: &mut Connection<R, W>,
     side: &mut Side,
-    most: usize,
+    rounds: usize,
 ) -> Result<String, AllocError> {
-    for made in 0..most {
-        if let Some(cause) = broken(alloc, connection, side)? {
+    for made in 0..rounds {
+        if let Some(cause) = make_round(alloc, connection, side)? {
             let commits = side.posting.work.commits;
             return format!(in alloc; "{made} rounds, {commits} commits; {cause}");
         }
     }
     let commits = side.posting.work.commits;
-    format!(in alloc; "{most} rounds, {commits} commits")
+    format!(in alloc; "{rounds} rounds, {commits} commits")
 }
 
-/// Makes a round. Returns why it failed, or `None` if it did not.
-fn broken<R: Read + Drop, W: Write + Drop>(
+/// Makes a round. Returns the reason if it failed, and `None` if it did not.
+fn make_round<R: Read + Drop, W: Write + Drop>(
     alloc: Global,
     connection: &mut Connection<R, W>,
     side: &mut Side,
@@ -178,33 +183,33 @@ fn broken<R: Read + Drop, W: Write + Drop>(
     }
     match result {
         Ok(_round) => Ok(None),
-        Err(PostError::Outbox(error)) => Ok(Some(left_text(alloc, &error)?)),
-        Err(PostError::Round(error)) => Ok(Some(round_text(alloc, &error)?)),
+        Err(PostError::Outbox(error)) => Ok(Some(explain_outbox_error(alloc, &error)?)),
+        Err(PostError::Round(error)) => Ok(Some(explain_round_error(alloc, &error)?)),
     }
 }
 
-/// Sends the entries in the outbox.
-fn sent<R: Read + Drop, W: Write + Drop>(
+/// Sends the commands in the outbox.
+fn send_outbox<R: Read + Drop, W: Write + Drop>(
     alloc: Global,
     connection: &mut Connection<R, W>,
     side: &mut Side,
 ) -> Result<String, AllocError> {
     match side.posting.send(alloc, connection) {
         Ok(()) => String::from_str(alloc, "all is sent"),
-        Err(error) => left_text(alloc, &error),
+        Err(error) => explain_outbox_error(alloc, &error),
     }
 }
 
-/// The handler commits.
-fn committed(alloc: Global, side: &mut Side) -> Result<String, AllocError> {
+/// Has the handler commit.
+fn commit_work(alloc: Global, side: &mut Side) -> Result<String, AllocError> {
     match side.posting.commit(alloc) {
         Ok(()) => String::from_str(alloc, "committed"),
         Err(NotCommitted) => String::from_str(alloc, "not committed"),
     }
 }
 
-/// The reply to a command.
-fn answered<R: Read + Drop, W: Write + Drop>(
+/// Sends a command, and returns the bytes of the reply.
+fn ask_server<R: Read + Drop, W: Write + Drop>(
     alloc: Global,
     connection: &mut Connection<R, W>,
     line: &str,
@@ -214,13 +219,14 @@ fn answered<R: Read + Drop, W: Write + Drop>(
         return Err(AllocError);
     }
     match connection.receive_in_place(alloc) {
-        Ok(len) => text_of(alloc, connection.received(len)),
+        Ok(len) => escape_bytes(alloc, connection.received(len)),
         Err(_) => Err(AllocError),
     }
 }
 
-/// Why a round failed before anything was posted; an `Err` if memory ran out.
-fn round_text(alloc: Global, error: &RunError) -> Result<String, AllocError> {
+/// Returns why a round failed before it posted anything. An error that no script causes counts as memory that ran
+/// out.
+fn explain_round_error(alloc: Global, error: &RunError) -> Result<String, AllocError> {
     match error {
         RunError::Request(RequestError::NotCommitted) => format!(in alloc; "{error}"),
         RunError::Send(cause) if is_broken(cause) => format!(in alloc; "{error}"),
@@ -232,8 +238,8 @@ fn round_text(alloc: Global, error: &RunError) -> Result<String, AllocError> {
     }
 }
 
-/// Why not all was posted; an `Err` if memory ran out.
-fn left_text(alloc: Global, error: &OutboxError) -> Result<String, AllocError> {
+/// Returns why not all commands were posted. An error that no script causes counts as memory that ran out.
+fn explain_outbox_error(alloc: Global, error: &OutboxError) -> Result<String, AllocError> {
     match error {
         OutboxError::Connection(cause) if is_broken(cause) => format!(in alloc; "left: {error}"),
         OutboxError::Refused(_) => format!(in alloc; "left: {error}"),
@@ -241,7 +247,7 @@ fn left_text(alloc: Global, error: &OutboxError) -> Result<String, AllocError> {
     }
 }
 
-/// Whether a connection broke as a script demands.
+/// Returns whether a connection broke at the byte that the line names.
 fn is_broken(error: &ConnectionError) -> bool {
     match error {
         ConnectionError::Write(cause) => cause.kind() == ErrorKind::BrokenPipe,

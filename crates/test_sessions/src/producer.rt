@@ -6,14 +6,14 @@
 //! |---|---|
 //! | `ask` | it makes its next request, and the bytes are printed |
 //! | `cut` | its connection is closed |
-//! | another | bytes of replies, which it reads |
+//! | any other | bytes of replies, which it reads |
 //!
-//! The result of a line is followed by the stage of the producer, and the count of replies still to come.
+//! The result of a line is followed by the stage of the producer, and the count of replies that it expects.
 
 ghost use Rattle.std.specs.Prelude.{◌≡◌, IfOk, length};
 ghost use Rattle.test_sessions.specs.Scripts.{is_producer_script};
 
-use crate::{bytes_of, number_of, parted, push_exchange, text_of};
+use crate::{escape_bytes, parse_bytes, parse_number, push_exchange, split_at_mark};
 use redis_wire::{Decoded, Limits, Reply, WireError, decode};
 use std::alloc::{AllocError, Global};
 use worker_producer::{FeedError, Producer, Record, RequestError, Settings};
@@ -25,7 +25,7 @@ struct Feed {
     records: Vec<Record>,
 }
 
-/// Plays a script of this name. Returns whether it is one of this module.
+/// Plays the script if this module has one of this name. Returns whether it has.
 pub fn play(
     alloc: Global,
     name: &str,
@@ -44,17 +44,17 @@ pub fn play(
     }
 }
 
-/// Plays the lines of a script, or none if its settings are refused.
+/// Plays the lines of a script. If its settings are refused it plays none, and prints the error.
 fn play_lines(alloc: Global, words: &str, lines: &str, out: &mut String) -> Result<(), AllocError> {
     let head = format!(in alloc; "producer {words}")?;
-    let (base, rest) = parted(words, ' ');
-    let (batch, count) = parted(rest, ' ');
+    let (base, rest) = split_at_mark(words, ' ');
+    let (batch, count) = split_at_mark(rest, ' ');
     let key = String::from_str(alloc, "k")?;
-    match Settings::new(key, base.parse::<u64>().unwrap_or(0), number_of(batch)) {
+    match Settings::new(key, base.parse::<u64>().unwrap_or(0), parse_number(batch)) {
         Ok(settings) => {
             push_exchange(out, head.as_str(), "")?;
             let producer = Producer::new(settings);
-            play_producer(alloc, producer, number_of(count), lines, out)
+            play_producer(alloc, producer, parse_number(count), lines, out)
         }
         Err(error) => {
             let text = format!(in alloc; "{error}")?;
@@ -71,24 +71,24 @@ fn play_producer(
     lines: &str,
     out: &mut String,
 ) -> Result<(), AllocError> {
-    let records = records_of(alloc, 0, count)?;
+    let records = make_records(alloc, 0, count)?;
     let mut feed = Feed { producer, records };
     play_steps(alloc, lines, &mut feed, out)
 }
 
 /// Returns `count` records, each with its number, from `first` on.
-pub fn records_of(alloc: Global, first: usize, count: usize) -> Result<Vec<Record>, AllocError>
+pub fn make_records(alloc: Global, first: usize, count: usize) -> Result<Vec<Record>, AllocError>
     ensures { IfOk result (λ records. length records.items ≡ count) }
 {
     let mut records = Vec::new(alloc);
     for index in 0..count {
-        records.push(record_of(alloc, first.wrapping_add(index))?)?;
+        records.push(make_record(alloc, first.wrapping_add(index))?)?;
     }
     Ok(records)
 }
 
-/// Returns a record of one field, this number.
-fn record_of(alloc: Global, number: usize) -> Result<Record, AllocError> {
+/// Returns a record with one field `n`, whose value is this number.
+fn make_record(alloc: Global, number: usize) -> Result<Record, AllocError> {
     let mut record = Vec::new(alloc);
     let name = String::from_str(alloc, "n")?.into_bytes();
     let value = format!(in alloc; "{number}")?.into_bytes();
@@ -116,48 +116,48 @@ fn play_step(
     feed: &mut Feed,
     out: &mut String,
 ) -> Result<(), AllocError> {
-    let text = done(alloc, line, feed)?;
+    let text = do_step(alloc, line, feed)?;
     let stage = feed.producer.stage();
     let coming = feed.producer.coming();
     let text = format!(in alloc; "{} {stage:?} {coming}", text.as_str())?;
     push_exchange(out, line, text.as_str())
 }
 
-/// Does what a line asks for.
-fn done(alloc: Global, line: &str, feed: &mut Feed) -> Result<String, AllocError> {
+/// Executes a step, and returns its result.
+fn do_step(alloc: Global, line: &str, feed: &mut Feed) -> Result<String, AllocError> {
     match line {
-        "ask" => asked(alloc, feed),
+        "ask" => make_request(alloc, feed),
         "cut" => {
             feed.producer.disconnected();
             String::from_str(alloc, "Ok")
         }
-        _ => told(alloc, line, feed),
+        _ => read_replies(alloc, line, feed),
     }
 }
 
-/// The next request of the producer.
-fn asked(alloc: Global, feed: &mut Feed) -> Result<String, AllocError> {
+/// Makes the next request of the producer, and returns it as text.
+fn make_request(alloc: Global, feed: &mut Feed) -> Result<String, AllocError> {
     let mut bytes = Vec::new(alloc);
     match feed.producer.request(alloc, &mut bytes, &mut feed.records) {
-        Ok(asked) => {
-            let text = text_of(alloc, &bytes)?;
-            format!(in alloc; "{asked:?}: {}", text.as_str())
+        Ok(request) => {
+            let text = escape_bytes(alloc, &bytes)?;
+            format!(in alloc; "{request:?}: {}", text.as_str())
         }
-        // (records in memory are not read only if memory is refused)
+        // (a record in memory can be read unless memory is refused)
         Err(RequestError::Memory | RequestError::NotRead) => Err(AllocError),
         Err(error) => format!(in alloc; "{error}"),
     }
 }
 
-/// The results of replies.
-fn told(alloc: Global, line: &str, feed: &mut Feed) -> Result<String, AllocError> {
-    let bytes = bytes_of(alloc, line)?;
+/// Passes the replies in a line to the producer, and returns the results.
+fn read_replies(alloc: Global, line: &str, feed: &mut Feed) -> Result<String, AllocError> {
+    let bytes = parse_bytes(alloc, line)?;
     let mut rest = bytes.as_slice();
     let mut text = String::new(alloc);
     for _ in 0..bytes.len() {
         match decode(alloc, rest, Limits::default()) {
             Ok(Decoded::Complete { reply, len }) => {
-                push_taken(alloc, reply, feed, &mut text)?;
+                push_result(alloc, reply, feed, &mut text)?;
                 rest = rest.get(len..).unwrap_or(&[]);
             }
             Err(WireError::Memory) => return Err(AllocError),
@@ -167,8 +167,8 @@ fn told(alloc: Global, line: &str, feed: &mut Feed) -> Result<String, AllocError
     Ok(text)
 }
 
-/// Appends the result of a reply.
-fn push_taken(
+/// Passes a reply to the producer, and appends the result.
+fn push_result(
     alloc: Global,
     reply: Reply,
     feed: &mut Feed,

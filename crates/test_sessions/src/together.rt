@@ -2,8 +2,8 @@
 //! written by the worker and read by the server. Replies are written by the server, read and written
 //! again as by a proxy, and read by the worker, alternately by value and in place.
 //!
-//! A first line selects many runs, and each has a fault at another point. At its end all entries have to be
-//! handled, and nothing may be pending:
+//! A first line selects many runs, and each has a fault at another point. At the end of a run all entries have
+//! to be handled, and nothing may be pending:
 //!
 //! | First line | The runs |
 //! |---|---|
@@ -15,7 +15,10 @@
 ghost use Rattle.std.specs.Prelude.{◌≡◌, IfOk};
 ghost use Rattle.test_sessions.specs.Scripts.{is_together_script};
 
-use crate::{answered, claim_settings, next, number_of, parted, protocol_of, push_line, told};
+use crate::{
+    draw_next, make_claim_settings, parse_number, parse_protocol, push_line, run_command, run_line,
+    split_at_mark,
+};
 use redis_wire::{Decoded, Limits, ReplyStream, WireError, append_answer, command_words, decode};
 use server_commands::{Protocol, Server, Session};
 use std::alloc::{AllocError, Global};
@@ -25,68 +28,67 @@ use worker::{
     WorkerError,
 };
 
-/// A run whose connection breaks after `bytes` bytes.
-fn cut(
+/// Plays a run whose connection breaks after `bytes` bytes.
+fn play_cut(
     alloc: Global,
     world: &mut World,
     protocol: Protocol,
     bytes: usize,
 ) -> Result<Played, AllocError> {
-    fill(alloc, world, protocol, &["ann"], 2)?;
+    fill_world(alloc, world, protocol, &["ann"], 2)?;
     for line in world.lines.iter_mut() {
         line.bytes = bytes;
     }
-    settled(alloc, world)
+    finish_session(alloc, world)
 }
 
-/// A run whose worker crashes after `steps` steps.
-fn crash(
+/// Plays a run whose worker crashes after `steps` steps.
+fn play_crash(
     alloc: Global,
     world: &mut World,
     protocol: Protocol,
     steps: usize,
 ) -> Result<Played, AllocError> {
-    fill(alloc, world, protocol, &["ann"], 5)?;
+    fill_world(alloc, world, protocol, &["ann"], 5)?;
     for line in world.lines.iter_mut() {
         line.steps = steps;
     }
-    settled(alloc, world)
+    finish_session(alloc, world)
 }
 
-/// A run whose first worker is gone for good after `steps` steps, and the other one claims its
-/// pending entries.
-fn gone(
+/// Plays a run whose first worker is gone for good after `steps` steps. The other one claims its pending entries.
+fn play_lost_worker(
     alloc: Global,
     world: &mut World,
     protocol: Protocol,
     steps: usize,
 ) -> Result<Played, AllocError> {
-    fill(alloc, world, protocol, &["ann", "bob"], 6)?;
-    send_away(world, steps);
+    fill_world(alloc, world, protocol, &["ann", "bob"], 6)?;
+    lose_first_worker(world, steps);
     for _ in 0..10u8 {
         if !is_any_down(&world.lines) {
-            round(alloc, world);
+            play_round(alloc, world);
         }
     }
-    let has_left = left_by_ann(alloc, world)?;
-    let mut played = settled(alloc, world)?;
+    let has_left = has_pending_for_ann(alloc, world)?;
+    let mut played = finish_session(alloc, world)?;
     played.has_left = has_left;
     Ok(played)
 }
 
-/// A run of two workers with `entries` entries.
-fn settling(
+/// Plays a run of two workers with `entries` entries.
+fn play_settling(
     alloc: Global,
     world: &mut World,
     protocol: Protocol,
     entries: usize,
 ) -> Result<Played, AllocError> {
-    fill(alloc, world, protocol, &["ann", "bob"], entries)?;
-    settled(alloc, world)
+    fill_world(alloc, world, protocol, &["ann", "bob"], entries)?;
+    finish_session(alloc, world)
 }
 
-/// The run of this name and number.
-fn session(
+/// Plays the run of this name and number in a new world.
+fn play_session(
     alloc: Global,
     name: &str,
     protocol: Protocol,
@@ -99,11 +101,11 @@ fn session(
         deleted: [false; ENTRIES],
         lines: Vec::new(alloc),
     };
-    session_in(alloc, &mut world, name, protocol, number)
+    play_session_in(alloc, &mut world, name, protocol, number)
 }
 
-/// The run of this name and number in this world, which is empty.
-fn session_in(
+/// Plays the run of this name and number in this world, which is empty.
+fn play_session_in(
     alloc: Global,
     world: &mut World,
     name: &str,
@@ -111,30 +113,30 @@ fn session_in(
     number: usize,
 ) -> Result<Played, AllocError> {
     match name {
-        "cuts" => cut(alloc, world, protocol, number),
-        "crashes" => crash(alloc, world, protocol, number),
-        "gone" => gone(alloc, world, protocol, number),
-        "settles" => settling(alloc, world, protocol, number),
-        _ => played_moves(alloc, world, number),
+        "cuts" => play_cut(alloc, world, protocol, number),
+        "crashes" => play_crash(alloc, world, protocol, number),
+        "gone" => play_lost_worker(alloc, world, protocol, number),
+        "settles" => play_settling(alloc, world, protocol, number),
+        _ => play_moves(alloc, world, number),
     }
 }
 
-/// The number of runs: the number of bytes of a run without a fault, or the number in the first line.
-fn count_of(
+/// Returns the number of runs: the number of bytes of a run without a fault, or the number in the first line.
+fn count_sessions(
     alloc: Global,
     name: &str,
     protocol: Protocol,
     word: &str,
 ) -> Result<usize, AllocError> {
     if name == "cuts" {
-        let whole = session(alloc, name, protocol, usize::MAX)?;
+        let whole = play_session(alloc, name, protocol, usize::MAX)?;
         let is_whole = whole.is_settled && whole.breaks == 0;
         return Ok(if is_whole { whole.bytes } else { 0 });
     }
-    Ok(number_of(word))
+    Ok(parse_number(word))
 }
 
-/// Plays a script of this name. Returns whether it is one of this module.
+/// Plays the script if this module has one of this name. Returns whether it has.
 pub fn play(alloc: Global, name: &str, words: &str, out: &mut String) -> Result<bool, AllocError>
     ensures { IfOk result (λ played. played ≡ is_together_script name.now) }
 {
@@ -149,17 +151,17 @@ pub fn play(alloc: Global, name: &str, words: &str, out: &mut String) -> Result<
 
 /// Plays runs, and prints their outcome.
 fn play_named(alloc: Global, name: &str, words: &str, out: &mut String) -> Result<(), AllocError> {
-    let (number, word) = parted(words, ' ');
-    let protocol = protocol_of(number);
+    let (number, word) = split_at_mark(words, ' ');
+    let protocol = parse_protocol(number);
     if name == "settles" {
-        let played = session(alloc, name, protocol, number_of(word))?;
-        return push_line(out, settled_text(played.is_settled));
+        let played = play_session(alloc, name, protocol, parse_number(word))?;
+        return push_line(out, describe_end(played.is_settled));
     }
     let word = if name == "schedules" { number } else { word };
-    let count = count_of(alloc, name, protocol, word)?;
+    let count = count_sessions(alloc, name, protocol, word)?;
     let mut tally = Tally::new(alloc);
     add_sessions(alloc, name, protocol, count, &mut tally)?;
-    push_line(out, tally.text(alloc)?.as_str())
+    push_line(out, tally.to_text(alloc)?.as_str())
 }
 
 /// Adds the runs of this name with the numbers below `count`.
@@ -171,14 +173,14 @@ fn add_sessions(
     tally: &mut Tally,
 ) -> Result<(), AllocError> {
     for number in 0..count {
-        let played = session(alloc, name, protocol, number)?;
+        let played = play_session(alloc, name, protocol, number)?;
         tally.add(number, played)?;
     }
     Ok(())
 }
 
-/// Whether a run settled, as text.
-fn settled_text(is_settled: bool) -> &'static str {
+/// Returns whether a run settled, as text.
+fn describe_end(is_settled: bool) -> &'static str {
     if is_settled {
         "all is handled, and nothing is pending"
     } else {
@@ -208,6 +210,7 @@ struct Tally {
     breaks: usize,
     /// The number of runs with exactly one break.
     broken_once: usize,
+    /// The number of runs in which a worker that is gone left entries pending.
     left: usize,
     settled: usize,
     /// The numbers of the runs that did not settle.
@@ -215,7 +218,7 @@ struct Tally {
 }
 
 impl Tally {
-    /// The outcome of no runs.
+    /// Returns the outcome of no runs.
     fn new(alloc: Global) -> Tally {
         Tally {
             sessions: 0,
@@ -242,8 +245,8 @@ impl Tally {
         Ok(())
     }
 
-    /// The outcome, on one line.
-    fn text(&self, alloc: Global) -> Result<String, AllocError> {
+    /// Returns the outcome, on one line.
+    fn to_text(&self, alloc: Global) -> Result<String, AllocError> {
         format!(in alloc;
             "{} sessions, {} settled; {} breaks, {} sessions with one; {} left something{}",
             self.sessions,
@@ -258,6 +261,7 @@ impl Tally {
 
 // A server with some entries, and workers.
 
+/// The most entries of a run.
 const ENTRIES: usize = 6;
 
 /// This number of turns after the last fault is enough for every entry.
@@ -274,7 +278,7 @@ struct World {
 }
 
 /// Adds workers of these names, and this number of entries.
-fn fill(
+fn fill_world(
     alloc: Global,
     world: &mut World,
     protocol: Protocol,
@@ -282,34 +286,34 @@ fn fill(
     entries: usize,
 ) -> Result<(), AllocError> {
     for consumer in consumers {
-        world.lines.push(line_of(alloc, consumer, protocol)?)?;
+        world.lines.push(make_line(alloc, consumer, protocol)?)?;
     }
     for _ in 0..entries {
-        add(alloc, world)?;
+        add_entry(alloc, world)?;
     }
     Ok(())
 }
 
-/// The reply of the server to a command that no worker sends.
-fn command(alloc: Global, world: &mut World, line: &str) -> Result<Vec<u8>, AllocError> {
+/// Executes a command that no worker sends, and returns the bytes of the reply.
+fn ask_server(alloc: Global, world: &mut World, line: &str) -> Result<Vec<u8>, AllocError> {
     let mut session = Session::new(alloc, Protocol::Resp2);
-    told(alloc, &mut world.server, &mut session, line)
+    run_line(alloc, &mut world.server, &mut session, line)
 }
 
 /// Adds one entry.
-fn add(alloc: Global, world: &mut World) -> Result<(), AllocError> {
+fn add_entry(alloc: Global, world: &mut World) -> Result<(), AllocError> {
     let number = world.added;
     let line = format!(in alloc; "XADD k {number}-1 n {number}")?;
-    let _id = command(alloc, world, line.as_str())?;
+    let _id = ask_server(alloc, world, line.as_str())?;
     world.added = number.saturating_add(1);
     Ok(())
 }
 
 /// Deletes an entry, if it was added.
-fn delete(alloc: Global, world: &mut World, number: usize) -> Result<(), AllocError> {
+fn delete_entry(alloc: Global, world: &mut World, number: usize) -> Result<(), AllocError> {
     if number < world.added {
         let line = format!(in alloc; "XDEL k {number}-1")?;
-        let _count = command(alloc, world, line.as_str())?;
+        let _count = ask_server(alloc, world, line.as_str())?;
         if let Some(place) = world.deleted.get_mut(number) {
             *place = true;
         }
@@ -317,21 +321,21 @@ fn delete(alloc: Global, world: &mut World, number: usize) -> Result<(), AllocEr
     Ok(())
 }
 
-/// Whether entries are pending for the worker ann.
-fn left_by_ann(alloc: Global, world: &mut World) -> Result<bool, AllocError> {
-    let left = command(alloc, world, "XPENDING k g - + 10 ann")?;
-    Ok(!left.starts_with(b"*0"))
+/// Returns whether entries are pending for the worker ann.
+fn has_pending_for_ann(alloc: Global, world: &mut World) -> Result<bool, AllocError> {
+    let pending = ask_server(alloc, world, "XPENDING k g - + 10 ann")?;
+    Ok(!pending.starts_with(b"*0"))
 }
 
 /// Gives every worker a turn.
-fn round(alloc: Global, world: &mut World) {
+fn play_round(alloc: Global, world: &mut World) {
     for line in world.lines.iter_mut() {
         world.now = world.now.saturating_add(1);
-        turn(alloc, &mut world.server, world.now, line);
+        play_turn(alloc, &mut world.server, world.now, line);
     }
 }
 
-/// Whether each entry was committed by a worker or deleted, and nothing is pending.
+/// Returns whether each entry was committed by a worker or deleted, and nothing is pending.
 fn is_done(alloc: Global, world: &mut World) -> Result<bool, AllocError> {
     for number in 0..world.added {
         let is_deleted = world.deleted.get(number) == Some(&true);
@@ -339,24 +343,25 @@ fn is_done(alloc: Global, world: &mut World) -> Result<bool, AllocError> {
             return Ok(false);
         }
     }
-    let pending = command(alloc, world, "XPENDING k g")?;
+    let pending = ask_server(alloc, world, "XPENDING k g")?;
     Ok(pending.starts_with(b"*4\r\n:0\r\n"))
 }
 
-/// Gives turns without a new fault until all is done. Returns whether it is.
-fn settles(alloc: Global, world: &mut World) -> Result<bool, AllocError> {
+/// Gives turns without a new fault until all is done. Returns `false` if it is not after `TURNS` rounds, or if a
+/// worker is wrong.
+fn settle_world(alloc: Global, world: &mut World) -> Result<bool, AllocError> {
     for _ in 0..TURNS {
         if is_done(alloc, world)? {
             return Ok(!is_any_wrong(&world.lines));
         }
-        round(alloc, world);
+        play_round(alloc, world);
     }
     Ok(false)
 }
 
-/// The outcome of a run.
-fn settled(alloc: Global, world: &mut World) -> Result<Played, AllocError> {
-    let is_settled = settles(alloc, world)?;
+/// Settles the world, and returns the outcome of the run.
+fn finish_session(alloc: Global, world: &mut World) -> Result<Played, AllocError> {
+    let is_settled = settle_world(alloc, world)?;
     let mut breaks = 0usize;
     let mut bytes = 0usize;
     for line in &world.lines {
@@ -376,18 +381,20 @@ fn settled(alloc: Global, world: &mut World) -> Result<Played, AllocError> {
 /// An entry that is pending for this number of milliseconds is claimed; a turn takes one.
 const IDLE: usize = 4;
 
-/// The record of a worker's handler on the entries `n-1`, each of which has the field `n`.
+/// A handler that records the entries that it was given. The entry with the number 3 has the id `3-1`, and the
+/// field `n` of the value 3.
 #[derive(Drop)]
 struct Book {
-    /// Done and not committed: a crash undoes it.
-    loose: [bool; ENTRIES],
+    /// Which entries were done and not committed; a crash undoes them.
+    uncommitted: [bool; ENTRIES],
+    /// Which entries were done and committed.
     committed: [bool; ENTRIES],
     /// Whether it was given an entry that was not added.
     is_foreign: bool,
     /// The verdict on the next entry; those after it are done.
-    says: Verdict,
+    verdict: Verdict,
     /// Whether the next commit fails.
-    refuses: bool,
+    fails_commit: bool,
 }
 
 impl Handler for Book {
@@ -401,9 +408,9 @@ impl Handler for Book {
 
     fn handle(&mut self, _alloc: Global, entry: &EntryRef<'_>) -> Verdict {
         let field = entry.get_u64(b"n");
-        let verdict = mem::replace(&mut self.says, Verdict::Done);
-        let number = number_of_id(entry.id());
-        match self.loose.get_mut(number) {
+        let verdict = mem::replace(&mut self.verdict, Verdict::Done);
+        let number = parse_id(entry.id());
+        match self.uncommitted.get_mut(number) {
             Some(place) if field == Ok(number as u64) => {
                 if verdict == Verdict::Done {
                     *place = true;
@@ -415,19 +422,19 @@ impl Handler for Book {
     }
 
     fn commit(&mut self, _alloc: Global) -> Result<(), NotCommitted> {
-        if mem::replace(&mut self.refuses, false) {
+        if mem::replace(&mut self.fails_commit, false) {
             return Err(NotCommitted);
         }
-        for (committed, loose) in self.committed.iter_mut().zip(self.loose.iter_mut()) {
-            *committed = *committed || *loose;
-            *loose = false;
+        for (committed, uncommitted) in self.committed.iter_mut().zip(self.uncommitted.iter_mut()) {
+            *committed = *committed || *uncommitted;
+            *uncommitted = false;
         }
         Ok(())
     }
 }
 
-/// The number of the entry with this id.
-fn number_of_id(id: &str) -> usize {
+/// Returns the number of the entry with this id; `usize::MAX` for an id of no entry.
+fn parse_id(id: &str) -> usize {
     match id.split_once('-') {
         Some((number, "1")) => number.parse::<usize>().unwrap_or(usize::MAX),
         _ => usize::MAX,
@@ -444,13 +451,14 @@ struct Line {
     /// Bytes of commands that the server received.
     commands: ReplyStream,
     /// Bytes of replies that the worker received.
-    answers: ReplyStream,
+    replies: ReplyStream,
     /// The connection breaks after this number of bytes, in either direction.
     bytes: usize,
     /// The worker crashes after this number of steps.
     steps: usize,
     /// How many times the connection broke or the worker crashed.
     breaks: usize,
+    /// Whether the connection broke or the worker crashed, and it did not restart yet.
     is_down: bool,
     /// Whether the worker never comes back.
     is_gone: bool,
@@ -458,7 +466,7 @@ struct Line {
     is_refused: bool,
 }
 
-/// Whether a worker refused a reply, sent too long a command, or got an entry that was not added.
+/// Returns whether a worker refused a reply, sent too long a command, or got an entry that was not added.
 fn is_any_wrong(lines: &[Line]) -> bool {
     for line in lines {
         if line.is_refused || line.book.is_foreign {
@@ -468,7 +476,7 @@ fn is_any_wrong(lines: &[Line]) -> bool {
     false
 }
 
-/// Whether any worker is down.
+/// Returns whether any worker is down.
 fn is_any_down(lines: &[Line]) -> bool {
     for line in lines {
         if line.is_down {
@@ -478,7 +486,7 @@ fn is_any_down(lines: &[Line]) -> bool {
     false
 }
 
-/// Whether any worker committed the entry with this number.
+/// Returns whether any worker committed the entry with this number.
 fn is_committed(lines: &[Line], number: usize) -> bool {
     for line in lines {
         if line.book.committed.get(number) == Some(&true) {
@@ -488,27 +496,31 @@ fn is_committed(lines: &[Line], number: usize) -> bool {
     false
 }
 
-/// A new worker.
-fn worker_of(alloc: Global, consumer: &str) -> Result<Worker, AllocError> {
-    Ok(Worker::new(alloc, claim_settings(alloc, consumer, 2, IDLE)?))
+/// Returns a new worker.
+fn make_worker(alloc: Global, consumer: &str) -> Result<Worker, AllocError> {
+    Ok(Worker::new(alloc, make_claim_settings(alloc, consumer, 2, IDLE)?))
 }
 
-/// A worker of this name, and its connection.
-fn line_of(alloc: Global, consumer: &'static str, protocol: Protocol) -> Result<Line, AllocError> {
-    let worker = worker_of(alloc, consumer)?;
+/// Returns a worker of this name, and its connection.
+fn make_line(
+    alloc: Global,
+    consumer: &'static str,
+    protocol: Protocol,
+) -> Result<Line, AllocError> {
+    let worker = make_worker(alloc, consumer)?;
     Ok(Line {
         consumer,
         book: Book {
-            loose: [false; ENTRIES],
+            uncommitted: [false; ENTRIES],
             committed: [false; ENTRIES],
             is_foreign: false,
-            says: Verdict::Done,
-            refuses: false,
+            verdict: Verdict::Done,
+            fails_commit: false,
         },
         worker,
         session: Session::new(alloc, protocol),
         commands: ReplyStream::new(alloc, Limits::default()),
-        answers: ReplyStream::new(alloc, Limits::default()),
+        replies: ReplyStream::new(alloc, Limits::default()),
         bytes: usize::MAX,
         steps: usize::MAX,
         breaks: 0,
@@ -521,18 +533,18 @@ fn line_of(alloc: Global, consumer: &'static str, protocol: Protocol) -> Result<
 /// The worker restarts over a new connection: its uncommitted work is undone, and bytes in transit
 /// are lost.
 fn start_again(alloc: Global, line: &mut Line) -> Result<(), AllocError> {
-    line.worker = worker_of(alloc, line.consumer)?;
+    line.worker = make_worker(alloc, line.consumer)?;
     line.commands = ReplyStream::new(alloc, Limits::default());
-    line.answers = ReplyStream::new(alloc, Limits::default());
-    line.book.loose = [false; ENTRIES];
+    line.replies = ReplyStream::new(alloc, Limits::default());
+    line.book.uncommitted = [false; ENTRIES];
     line.bytes = usize::MAX;
     line.steps = usize::MAX;
     line.is_down = false;
     Ok(())
 }
 
-/// The worker sends a command, and takes the reply.
-fn turn(alloc: Global, server: &mut Server, now: u64, line: &mut Line) {
+/// Has the worker send a command and take the reply. If it is down it restarts first, unless it is gone.
+fn play_turn(alloc: Global, server: &mut Server, now: u64, line: &mut Line) {
     if line.is_down && (line.is_gone || start_again(alloc, line).is_err()) {
         return;
     }
@@ -542,29 +554,29 @@ fn turn(alloc: Global, server: &mut Server, now: u64, line: &mut Line) {
     }
 }
 
-/// One command and its reply. Returns `false` if the connection broke or the worker crashed meanwhile,
-/// or memory was refused to either side.
+/// Exchanges one command and its reply. Returns `false` if the connection broke or the worker crashed meanwhile, or
+/// memory was refused to either side.
 fn exchange(alloc: Global, server: &mut Server, now: u64, line: &mut Line) -> bool {
-    let mut question = Vec::new(alloc);
-    if let Err(error) = line.worker.request(alloc, &mut question, &mut line.book) {
-        // it makes the same request again
+    let mut request = Vec::new(alloc);
+    if let Err(error) = line.worker.request(alloc, &mut request, &mut line.book) {
+        // (it makes the same request again at its next turn)
         line.is_refused = line.is_refused || error == RequestError::TooLong;
         return true;
     }
-    if !goes_on(line) || !passes(&mut line.commands, &mut line.bytes, &question) {
+    if !take_step(line) || !deliver_bytes(&mut line.commands, &mut line.bytes, &request) {
         return false;
     }
-    let Some(answer) = answer_of(alloc, server, now, line) else {
+    let Some(reply) = serve_command(alloc, server, now, line) else {
         return false;
     };
-    if !goes_on(line) || !passes(&mut line.answers, &mut line.bytes, &answer) {
+    if !take_step(line) || !deliver_bytes(&mut line.replies, &mut line.bytes, &reply) {
         return false;
     }
-    hears(alloc, line) && goes_on(line)
+    take_reply(alloc, line) && take_step(line)
 }
 
-/// Takes one step. Returns `false` if the worker crashes.
-fn goes_on(line: &mut Line) -> bool {
+/// Takes one step. Returns `false` if the worker crashes before it.
+fn take_step(line: &mut Line) -> bool {
     if line.steps == 0 {
         return false;
     }
@@ -573,52 +585,53 @@ fn goes_on(line: &mut Line) -> bool {
 }
 
 /// Delivers the bytes that the connection lets through. Returns `false` if memory is refused.
-fn passes(stream: &mut ReplyStream, left: &mut usize, bytes: &[u8]) -> bool {
-    let len = bytes.len().min(*left);
-    *left -= len;
+fn deliver_bytes(stream: &mut ReplyStream, remaining: &mut usize, bytes: &[u8]) -> bool {
+    let len = bytes.len().min(*remaining);
+    *remaining -= len;
     stream.feed(&bytes[..len]).is_ok()
 }
 
-/// The reply of the server, if the command is complete.
-fn answer_of(alloc: Global, server: &mut Server, now: u64, line: &mut Line) -> Option<Vec<u8>> {
+/// Returns the reply of the server, if the command is complete.
+fn serve_command(alloc: Global, server: &mut Server, now: u64, line: &mut Line) -> Option<Vec<u8>> {
     let Ok(Some(command)) = line.commands.next(alloc) else {
         return None;
     };
     let Ok(Some(words)) = command_words(alloc, command) else {
         return None;
     };
-    let bytes = answered(alloc, server, now, &mut line.session, words).ok()?;
-    passed_on(alloc, line.session.protocol, &bytes)
+    let bytes = run_command(alloc, server, now, &mut line.session, words).ok()?;
+    forward_reply(alloc, line.session.protocol, &bytes)
 }
 
-/// The bytes of a reply as written by a proxy that has read it.
-fn passed_on(alloc: Global, protocol: Protocol, bytes: &[u8]) -> Option<Vec<u8>> {
+/// Reads a reply and writes it again, as a proxy does. Returns the bytes.
+fn forward_reply(alloc: Global, protocol: Protocol, bytes: &[u8]) -> Option<Vec<u8>> {
     let protocol = match protocol {
         Protocol::Resp2 => redis_wire::Protocol::Resp2,
         Protocol::Resp3 => redis_wire::Protocol::Resp3,
     };
     match decode(alloc, bytes, Limits::default()) {
         Ok(Decoded::Complete { reply, len }) if len == bytes.len() => {
-            let mut answer = Vec::new(alloc);
-            append_answer(alloc, &mut answer, protocol, &reply).ok()?;
-            Some(answer)
+            let mut forwarded = Vec::new(alloc);
+            append_answer(alloc, &mut forwarded, protocol, &reply).ok()?;
+            Some(forwarded)
         }
         _ => None,
     }
 }
 
-/// The worker takes a reply, if one is complete: by value or in place, roughly in alternation.
-fn hears(alloc: Global, line: &mut Line) -> bool {
+/// Passes the next reply to the worker, by value or in place, roughly in alternation. Returns `false` if none is
+/// complete, or it is refused.
+fn take_reply(alloc: Global, line: &mut Line) -> bool {
     if line.steps % 2 == 0 {
-        hears_in_place(alloc, line)
+        take_in_place(alloc, line)
     } else {
-        hears_by_value(alloc, line)
+        take_by_value(alloc, line)
     }
 }
 
-/// The worker takes a reply by value.
-fn hears_by_value(alloc: Global, line: &mut Line) -> bool {
-    let Ok(Some(reply)) = line.answers.next(alloc) else {
+/// Passes the next reply to the worker by value.
+fn take_by_value(alloc: Global, line: &mut Line) -> bool {
+    let Ok(Some(reply)) = line.replies.next(alloc) else {
         return false;
     };
     match line.worker.answered(alloc, reply, &mut line.book) {
@@ -636,16 +649,16 @@ fn hears_by_value(alloc: Global, line: &mut Line) -> bool {
     }
 }
 
-/// The worker takes a reply in place.
-fn hears_in_place(alloc: Global, line: &mut Line) -> bool {
-    let Ok(Some(len)) = line.answers.next_in_place(alloc) else {
+/// Passes the next reply to the worker in place.
+fn take_in_place(alloc: Global, line: &mut Line) -> bool {
+    let Ok(Some(len)) = line.replies.next_in_place(alloc) else {
         return false;
     };
-    let bytes = line.answers.bytes();
-    let heard = line
+    let bytes = line.replies.bytes();
+    let result = line
         .worker
         .answered_in_place(alloc, bytes, Limits::default(), &mut line.book);
-    match heard {
+    match result {
         Ok(_)
         | Err(
             InPlaceError::Answer(
@@ -655,7 +668,7 @@ fn hears_in_place(alloc: Global, line: &mut Line) -> bool {
                 },
             ),
         ) => {
-            line.answers.give_out(len);
+            line.replies.give_out(len);
             true
         }
         Err(InPlaceError::Unread(WireError::Memory)) => false,
@@ -669,33 +682,34 @@ fn hears_in_place(alloc: Global, line: &mut Line) -> bool {
 // Two workers of a group over random schedules: they crash, connections break, commits fail,
 // entries are left, deleted and claimed.
 
+/// The number of moves of a run.
 const MOVES: usize = 16;
 
-/// Plants a fault that the worker meets in its next turns.
-fn plant(line: &mut Line, kind: u64, size: usize) {
+/// Sets a fault that the worker meets in its next turns; none for a kind above 6.
+fn set_fault(line: &mut Line, kind: u64, size: usize) {
     match kind {
         0 | 1 => line.bytes = size % 300,
         2 | 3 => line.steps = size % 8,
-        4 => line.book.refuses = true,
-        5 => line.book.says = Verdict::LeavePending,
-        6 => line.book.says = Verdict::Stop,
+        4 => line.book.fails_commit = true,
+        5 => line.book.verdict = Verdict::LeavePending,
+        6 => line.book.verdict = Verdict::Stop,
         _ => {}
     }
 }
 
-/// The first worker is gone for good after this number of steps.
-fn send_away(world: &mut World, steps: usize) {
+/// Makes the first worker go for good after this number of steps.
+fn lose_first_worker(world: &mut World, steps: usize) {
     for line in world.lines.iter_mut().take(1) {
         line.is_gone = true;
         line.steps = steps;
     }
 }
 
-/// One of the workers meets a fault, and has a turn.
-fn take_turn(alloc: Global, world: &mut World, who: usize, kind: u64, size: usize) {
-    if let Some(line) = world.lines.get_mut(who) {
-        plant(line, kind, size);
-        turn(alloc, &mut world.server, world.now, line);
+/// Sets a fault of one of the workers, and gives it a turn.
+fn play_faulty_turn(alloc: Global, world: &mut World, index: usize, kind: u64, size: usize) {
+    if let Some(line) = world.lines.get_mut(index) {
+        set_fault(line, kind, size);
+        play_turn(alloc, &mut world.server, world.now, line);
     }
 }
 
@@ -706,33 +720,33 @@ fn make_move(alloc: Global, world: &mut World, state: u64) -> Result<(), AllocEr
     world.now = world.now.saturating_add(size % 3);
     let size = usize::try_from(size).unwrap_or(0);
     match choice {
-        0..4 if world.added < ENTRIES => add(alloc, world),
-        4 => delete(alloc, world, size % ENTRIES),
+        0..4 if world.added < ENTRIES => add_entry(alloc, world),
+        4 => delete_entry(alloc, world, size % ENTRIES),
         5 => {
-            send_away(world, 3);
+            lose_first_worker(world, 3);
             Ok(())
         }
         _ => {
-            let who = usize::from(choice % 2 == 0);
-            take_turn(alloc, world, who, (state >> 40) % 12, size);
+            let index = usize::from(choice % 2 == 0);
+            play_faulty_turn(alloc, world, index, (state >> 40) % 12, size);
             Ok(())
         }
     }
 }
 
-/// A run with moves in an order that the seed selects: RESP2 for an even one, RESP3 else.
-fn played_moves(alloc: Global, world: &mut World, seed: usize) -> Result<Played, AllocError> {
+/// Plays a run with moves in an order that the seed selects: over RESP2 for an even seed, over RESP3 for an odd one.
+fn play_moves(alloc: Global, world: &mut World, seed: usize) -> Result<Played, AllocError> {
     let protocol = if seed % 2 == 0 {
         Protocol::Resp2
     } else {
         Protocol::Resp3
     };
-    fill(alloc, world, protocol, &["ann", "bob"], 0)?;
-    let mut state = next(seed as u64);
+    fill_world(alloc, world, protocol, &["ann", "bob"], 0)?;
+    let mut state = draw_next(seed as u64);
     for _ in 0..MOVES {
-        state = next(state);
+        state = draw_next(state);
         make_move(alloc, world, state)?;
     }
-    round(alloc, world);
-    settled(alloc, world)
+    play_round(alloc, world);
+    finish_session(alloc, world)
 }

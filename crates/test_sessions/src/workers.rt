@@ -1,7 +1,7 @@
 //! Scripts of a worker: the commands that it sends, and the entries that its handler gets.
 //!
-//! The words of the first line are settings: `count 2`, `block 0`, `idle 4`, `every 2`, `group first` or
-//! `group now`, and `again one` for entries that are read again one at a time. A line is one of these:
+//! The words of the first line are settings: `count 2`, `block 0`, `idle 4`, `every 2`, and `group first` or
+//! `group now`. With `again one` entries are read again one at a time. A line is one of these:
 //!
 //! | Line | Its effect |
 //! |---|---|
@@ -24,7 +24,8 @@ pub mod letters;
 pub mod streams;
 
 use crate::{
-    bytes_of, commands_text, number_of, parted, push_bytes, push_exchange, push_line, settings_for,
+    format_commands, make_settings, parse_bytes, parse_number, push_bytes, push_exchange,
+    push_line, split_at_mark,
 };
 use redis_wire::{Decoded, Limits, WireError, decode};
 use std::alloc::{AllocError, Global};
@@ -46,42 +47,42 @@ const LIMITS: Limits = Limits {
 #[derive(Drop)]
 struct Side {
     worker: Worker,
-    doer: Doer,
+    handler: ScriptHandler,
     in_place: bool,
 }
 
 impl Side {
-    /// A new worker.
+    /// Returns a new worker with the settings in these words.
     fn new(alloc: Global, words: &str, in_place: bool) -> Result<Side, AllocError> {
-        let settings = settings_of(alloc, words)?;
+        let settings = parse_settings(alloc, words)?;
         Ok(Side {
             worker: Worker::new(alloc, settings),
-            doer: Doer::new(alloc),
+            handler: ScriptHandler::new(alloc),
             in_place,
         })
     }
 }
 
-/// The settings in these words.
-fn settings_of(alloc: Global, words: &str) -> Result<Settings, AllocError> {
-    let mut settings = settings_for(alloc, "k", "c")?;
+/// Returns the settings in these words, each a name and its value.
+fn parse_settings(alloc: Global, words: &str) -> Result<Settings, AllocError> {
+    let mut settings = make_settings(alloc, "k", "c")?;
     let mut rest = words;
     for _ in 0..words.len() {
-        let (name, behind) = parted(rest, ' ');
-        let (word, behind) = parted(behind, ' ');
-        set(&mut settings, name, word);
-        rest = behind;
+        let (name, after) = split_at_mark(rest, ' ');
+        let (word, after) = split_at_mark(after, ' ');
+        apply_setting(&mut settings, name, word);
+        rest = after;
     }
     Ok(settings)
 }
 
-/// Sets the setting of this name.
-fn set(settings: &mut Settings, name: &str, word: &str) {
+/// Sets the setting of this name. Another name is ignored.
+fn apply_setting(settings: &mut Settings, name: &str, word: &str) {
     match name {
-        "count" => settings.set_count(number_of(word)).unwrap_or(()),
-        "block" => settings.set_block(number_of(word)),
-        "idle" => settings.set_min_idle(number_of(word)),
-        "every" => settings.set_every(number_of(word)),
+        "count" => settings.set_count(parse_number(word)).unwrap_or(()),
+        "block" => settings.set_block(parse_number(word)),
+        "idle" => settings.set_min_idle(parse_number(word)),
+        "every" => settings.set_every(parse_number(word)),
         "again" => settings.set_one_at_a_time(word == "one"),
         "group" if word == "first" => settings.set_make_group(MakeGroup::FromTheFirst),
         "group" => settings.set_make_group(MakeGroup::FromNow),
@@ -89,13 +90,17 @@ fn set(settings: &mut Settings, name: &str, word: &str) {
     }
 }
 
-/// The next request of a worker.
-fn asked(alloc: Global, worker: &mut Worker, doer: &mut Doer) -> Result<String, AllocError> {
+/// Makes the next request of a worker, and returns its commands as text.
+fn make_request(
+    alloc: Global,
+    worker: &mut Worker,
+    handler: &mut ScriptHandler,
+) -> Result<String, AllocError> {
     let mut bytes = Vec::new(alloc);
-    let outcome = worker.request(alloc, &mut bytes, doer);
-    doer.check()?;
+    let outcome = worker.request(alloc, &mut bytes, handler);
+    handler.check_memory()?;
     match outcome {
-        Ok(()) => commands_text(alloc, &bytes),
+        Ok(()) => format_commands(alloc, &bytes),
         Err(RequestError::Memory) => Err(AllocError),
         Err(error) => {
             let len = bytes.len();
@@ -104,26 +109,26 @@ fn asked(alloc: Global, worker: &mut Worker, doer: &mut Doer) -> Result<String, 
     }
 }
 
-/// The result of the reply at the start of bytes.
-fn taken(
+/// Passes the reply at the start of these bytes to a worker, and returns the result.
+fn take_reply(
     alloc: Global,
     worker: &mut Worker,
-    doer: &mut Doer,
+    handler: &mut ScriptHandler,
     in_place: bool,
     bytes: &[u8],
 ) -> Result<Progress, InPlaceError> {
     if in_place {
-        return worker.answered_in_place(alloc, bytes, LIMITS, doer);
+        return worker.answered_in_place(alloc, bytes, LIMITS, handler);
     }
     match decode(alloc, bytes, LIMITS) {
-        Ok(Decoded::Complete { reply, len: _ }) => Ok(worker.answered(alloc, reply, doer)?),
+        Ok(Decoded::Complete { reply, len: _ }) => Ok(worker.answered(alloc, reply, handler)?),
         Ok(Decoded::Incomplete) => Err(InPlaceError::Incomplete),
         Err(error) => Err(InPlaceError::Unread(error)),
     }
 }
 
-/// The name and the text of an error of a worker.
-fn error_text(alloc: Global, answer: &AnswerError) -> Result<String, AllocError> {
+/// Returns the name and the text of an error of a worker.
+fn format_error(alloc: Global, answer: &AnswerError) -> Result<String, AllocError> {
     match &answer.error {
         WorkerError::Memory => Err(AllocError),
         WorkerError::Server(_) => format!(in alloc; "Server: {answer}"),
@@ -133,68 +138,69 @@ fn error_text(alloc: Global, answer: &AnswerError) -> Result<String, AllocError>
     }
 }
 
-/// The result of a reply, as text.
-fn progress_text(
+/// Returns the result of a reply as text.
+fn format_progress(
     alloc: Global,
     outcome: &Result<Progress, InPlaceError>,
 ) -> Result<String, AllocError> {
     match outcome {
         Ok(progress) => format!(in alloc; "{progress:?}"),
         Err(InPlaceError::Unread(WireError::Memory)) => Err(AllocError),
-        Err(InPlaceError::Answer(error)) => error_text(alloc, error),
+        Err(InPlaceError::Answer(error)) => format_error(alloc, error),
         Err(error) => format!(in alloc; "{error:?}: {error}"),
     }
 }
 
-/// Has a worker read bytes. Returns the result, and the last request of the worker after it.
-fn told(
+/// Passes the reply in these bytes to a worker. Returns the result, the entries that the handler was given, and the
+/// last request of the worker.
+fn read_reply(
     alloc: Global,
     worker: &mut Worker,
-    doer: &mut Doer,
+    handler: &mut ScriptHandler,
     in_place: bool,
     bytes: &[u8],
 ) -> Result<String, AllocError> {
-    let result = taken(alloc, worker, doer, in_place, bytes);
-    let mut text = progress_text(alloc, &result)?;
-    text.push_str(doer.standing(alloc)?.as_str())?;
+    let result = take_reply(alloc, worker, handler, in_place, bytes);
+    let mut text = format_progress(alloc, &result)?;
+    text.push_str(handler.take_report(alloc)?.as_str())?;
     write!(text, "; asked {:?}", worker.asked())?;
     Ok(text)
 }
 
-/// Has the worker of a side read bytes.
-fn told_side(alloc: Global, side: &mut Side, bytes: &[u8]) -> Result<String, AllocError> {
-    told(
+/// Passes the reply in these bytes to the worker of a side.
+fn read_side_reply(alloc: Global, side: &mut Side, bytes: &[u8]) -> Result<String, AllocError> {
+    read_reply(
         alloc,
         &mut side.worker,
-        &mut side.doer,
+        &mut side.handler,
         side.in_place,
         bytes,
     )
 }
 
-/// Has it read the bytes of a text.
-fn told_text(alloc: Global, side: &mut Side, text: &str) -> Result<String, AllocError> {
-    let bytes = bytes_of(alloc, text)?;
-    told_side(alloc, side, &bytes)
+/// Passes the reply in a text to the worker of a side.
+fn read_text(alloc: Global, side: &mut Side, text: &str) -> Result<String, AllocError> {
+    let bytes = parse_bytes(alloc, text)?;
+    read_side_reply(alloc, side, &bytes)
 }
 
-/// Has a worker read each proper prefix of bytes. Returns the results, and the count of prefixes.
-fn told_fronts(alloc: Global, side: &mut Side, text: &str) -> Result<String, AllocError> {
-    let bytes = bytes_of(alloc, text)?;
+/// Passes each proper prefix of a reply to the worker of a side. Returns the results, and the count of prefixes.
+fn read_prefixes(alloc: Global, side: &mut Side, text: &str) -> Result<String, AllocError> {
+    let bytes = parse_bytes(alloc, text)?;
     let mut spans = Spans::new(alloc);
-    tell_fronts(alloc, side, &bytes, &mut spans)?;
-    spans.finished()
+    add_prefixes(alloc, side, &bytes, &mut spans)?;
+    spans.finish()
 }
 
-/// Has a worker read each proper prefix of bytes, and adds the results.
-fn tell_fronts(
+/// Passes each proper prefix of these bytes to the worker of a side, and adds the results.
+fn add_prefixes(
     alloc: Global,
     side: &mut Side,
     bytes: &[u8],
     spans: &mut Spans,
 ) -> Result<(), AllocError> {
     for end in 0..bytes.len() {
-        let text = told_side(alloc, side, &bytes[..end])?;
+        let text = read_side_reply(alloc, side, &bytes[..end])?;
         spans.add(text)?;
     }
     Ok(())
@@ -209,7 +215,7 @@ struct Spans {
 }
 
 impl Spans {
-    /// No numbers yet.
+    /// Returns the texts of no numbers.
     fn new(alloc: Global) -> Spans {
         Spans {
             text: String::new(alloc),
@@ -228,67 +234,62 @@ impl Spans {
         Ok(())
     }
 
-    /// The texts, and the count of numbers.
-    fn finished(self) -> Result<String, AllocError> {
+    /// Returns the texts, and the count of numbers.
+    fn finish(self) -> Result<String, AllocError> {
         let mut text = self.text;
         write!(text, "{} in all", self.count)?;
         Ok(text)
     }
 }
 
-/// Instructs a handler.
-fn instructed(
+/// Executes a step that instructs the handler.
+fn instruct_handler(
     alloc: Global,
-    doer: &mut Doer,
+    handler: &mut ScriptHandler,
     verb: &str,
     rest: &str,
 ) -> Result<String, AllocError> {
     match verb {
-        "says" => doer.say(rest)?,
-        "refuses" => doer.refuses = rest == "yes",
+        "says" => handler.set_verdicts(rest)?,
+        "refuses" => handler.fails_commits = rest == "yes",
         _ => return String::from_str(alloc, "no line of a worker"),
     }
     Ok(String::new(alloc))
 }
 
-/// Replaces a side's worker with one that acknowledges these entries first.
-fn resumed(alloc: Global, side: &mut Side, ids: &str) -> Result<String, AllocError> {
+/// Replaces the worker of a side with one that acknowledges these entries first.
+fn resume_worker(alloc: Global, side: &mut Side, ids: &str) -> Result<String, AllocError> {
     let mut committed = Vec::new(alloc);
     for id in ids.split(' ') {
         committed.push(String::from_str(alloc, id)?)?;
     }
-    side.worker = Worker::resumed(alloc, settings_of(alloc, "")?, committed);
+    side.worker = Worker::resumed(alloc, parse_settings(alloc, "")?, committed);
     Ok(String::new(alloc))
 }
 
-/// Does what a line asks for.
-fn done(alloc: Global, side: &mut Side, verb: &str, rest: &str) -> Result<String, AllocError> {
+/// Executes a step, and returns its result.
+fn do_step(alloc: Global, side: &mut Side, verb: &str, rest: &str) -> Result<String, AllocError> {
     match verb {
-        "ask" => asked(alloc, &mut side.worker, &mut side.doer),
-        "tell" => told_text(alloc, side, rest),
-        "fronts" => told_fronts(alloc, side, rest),
-        "resumes" => resumed(alloc, side, rest),
-        _ => instructed(alloc, &mut side.doer, verb, rest),
+        "ask" => make_request(alloc, &mut side.worker, &mut side.handler),
+        "tell" => read_text(alloc, side, rest),
+        "fronts" => read_prefixes(alloc, side, rest),
+        "resumes" => resume_worker(alloc, side, rest),
+        _ => instruct_handler(alloc, &mut side.handler, verb, rest),
     }
 }
 
-/// Both workers.
+/// The worker that takes replies by value, and the one that takes them in place.
 #[derive(Drop)]
 struct Both {
     by_value: Side,
     in_place: Side,
 }
 
-/// Has both workers do what a line asks for.
-fn both_done(
-    alloc: Global,
-    both: &mut Both,
-    line: &str,
-    out: &mut String,
-) -> Result<(), AllocError> {
-    let (verb, rest) = parted(line, ' ');
-    let one = done(alloc, &mut both.by_value, verb, rest)?;
-    let other = done(alloc, &mut both.in_place, verb, rest)?;
+/// Has both workers execute a step, and prints the result; both results if they differ.
+fn do_both(alloc: Global, both: &mut Both, line: &str, out: &mut String) -> Result<(), AllocError> {
+    let (verb, rest) = split_at_mark(line, ' ');
+    let one = do_step(alloc, &mut both.by_value, verb, rest)?;
+    let other = do_step(alloc, &mut both.in_place, verb, rest)?;
     if one.as_str() == other.as_str() {
         return push_exchange(out, line, one.as_str());
     }
@@ -298,7 +299,7 @@ fn both_done(
     push_line(out, other.as_str())
 }
 
-/// Whether a line is bytes of a reply.
+/// Returns whether a line is the bytes of a reply, which never begin with a lowercase letter.
 fn is_reply(line: &str) -> bool {
     match line.as_bytes() {
         [first, ..] => !first.is_ascii_lowercase(),
@@ -306,7 +307,7 @@ fn is_reply(line: &str) -> bool {
     }
 }
 
-/// Plays a script of this name. Returns whether it is one of this module.
+/// Plays the script if this module has one of this name. Returns whether it has.
 pub fn play(
     alloc: Global,
     name: &str,
@@ -333,7 +334,7 @@ fn play_both(alloc: Global, words: &str, lines: &str, out: &mut String) -> Resul
     play_lines(alloc, &mut both, lines, out)
 }
 
-/// Has both workers do what the lines ask for.
+/// Has both workers play the lines.
 fn play_lines(
     alloc: Global,
     both: &mut Both,
@@ -346,7 +347,7 @@ fn play_lines(
     Ok(())
 }
 
-/// Has both workers do what a line asks for; before bytes of a reply they make their next request.
+/// Has both workers play a line. Before the bytes of a reply they make their next request.
 fn play_line(
     alloc: Global,
     both: &mut Both,
@@ -354,76 +355,76 @@ fn play_line(
     out: &mut String,
 ) -> Result<(), AllocError> {
     if !is_reply(line) {
-        return both_done(alloc, both, line, out);
+        return do_both(alloc, both, line, out);
     }
-    both_done(alloc, both, "ask", out)?;
-    let told = format!(in alloc; "tell {line}")?;
-    both_done(alloc, both, told.as_str(), out)
+    do_both(alloc, both, "ask", out)?;
+    let step = format!(in alloc; "tell {line}")?;
+    do_both(alloc, both, step.as_str(), out)
 }
 
 // A handler whose verdicts are those of the script.
 
 /// Keeps each entry that is done as `Gathered` does, and records the entries that it was given.
 #[derive(Drop)]
-pub struct Doer {
+pub struct ScriptHandler {
     /// The entries that are done, and those of them that are committed.
     pub kept: Gathered,
     /// The verdicts on the next entries, the last one first. After these it is `Stop` on an entry with a field
     /// `poison`, and `Done` on another.
-    says: Vec<Verdict>,
+    verdicts: Vec<Verdict>,
     /// Whether commits fail.
-    refuses: bool,
+    fails_commits: bool,
     /// How many times it committed.
     commits: usize,
-    /// The entries that it was given, and its verdicts.
+    /// The entries that it was given since the last report, and its verdicts.
     seen: String,
     /// Whether memory was refused to it.
-    is_short: bool,
+    ran_out: bool,
 }
 
-impl Doer {
-    /// A handler that does every entry.
-    pub fn new(alloc: Global) -> Doer
-        ensures verdicts { result.says.items ≡ [] }
-        ensures refuses { result.refuses ≡ false }
+impl ScriptHandler {
+    /// Returns a handler that was given no verdicts and no entries.
+    pub fn new(alloc: Global) -> ScriptHandler
+        ensures verdicts { result.verdicts.items ≡ [] }
+        ensures refuses { result.fails_commits ≡ false }
         ensures commits { result.commits ≡ 0 }
         ensures seen { string_bytes result.seen ≡ [] }
-        ensures room { result.is_short ≡ false }
+        ensures room { result.ran_out ≡ false }
     {
-        Doer {
+        ScriptHandler {
             kept: Gathered::new(alloc),
-            says: Vec::new(alloc),
-            refuses: false,
+            verdicts: Vec::new(alloc),
+            fails_commits: false,
             commits: 0,
             seen: String::new(alloc),
-            is_short: false,
+            ran_out: false,
         }
     }
 
     /// Sets the verdicts on the next entries.
-    fn say(&mut self, words: &str) -> Result<(), AllocError> {
+    fn set_verdicts(&mut self, words: &str) -> Result<(), AllocError> {
         for word in words.split(' ') {
-            self.says.insert(0, verdict_of(word))?;
+            self.verdicts.insert(0, parse_verdict(word))?;
         }
         Ok(())
     }
 
-    /// `Err` if memory was refused to it.
-    fn check(&self) -> Result<(), AllocError> {
-        if self.is_short {
+    /// Returns an error if memory was refused to the handler.
+    fn check_memory(&self) -> Result<(), AllocError> {
+        if self.ran_out {
             Err(AllocError)
         } else {
             Ok(())
         }
     }
 
-    /// The entries that it was given since the last call, and the counts of those that it kept.
-    pub fn standing(&mut self, alloc: Global) -> Result<String, AllocError>
+    /// Returns the entries that it was given since the last call, and the counts of those that it kept.
+    pub fn take_report(&mut self, alloc: Global) -> Result<String, AllocError>
         ensures ok { IfOk result (λ _. string_bytes self.new.seen ≡ []) }
         ensures err { IfErr result (λ _. string_bytes self.new.seen ≡ string_bytes self.old.seen) }
         ensures commits { self.new.commits ≡ self.old.commits }
     {
-        self.check()?;
+        self.check_memory()?;
         let text = format!(in alloc;
             "{}; loose {}, committed {} in {}",
             self.seen.as_str(),
@@ -436,14 +437,14 @@ impl Doer {
     }
 
     /// Records an entry, and keeps it if it is done.
-    fn note(&mut self, alloc: Global, entry: &EntryRef<'_>) -> Result<Verdict, AllocError> {
+    fn record_entry(&mut self, alloc: Global, entry: &EntryRef<'_>) -> Result<Verdict, AllocError> {
         push_entry(&mut self.seen, entry)?;
-        let verdict = match self.says.pop() {
+        let verdict = match self.verdicts.pop() {
             Some(verdict) => verdict,
             None if entry.get(b"poison").is_some() => Verdict::Stop,
             None => Verdict::Done,
         };
-        self.seen.push_str(name_of(verdict))?;
+        self.seen.push_str(name_verdict(verdict))?;
         if verdict == Verdict::Done && self.kept.handle(alloc, entry) != Verdict::Done {
             return Err(AllocError);
         }
@@ -451,8 +452,8 @@ impl Doer {
     }
 }
 
-/// The verdict of this name.
-fn verdict_of(word: &str) -> Verdict {
+/// Returns the verdict of this name; `Done` for another name.
+fn parse_verdict(word: &str) -> Verdict {
     match word {
         "leave" => Verdict::LeavePending,
         "stop" => Verdict::Stop,
@@ -460,8 +461,8 @@ fn verdict_of(word: &str) -> Verdict {
     }
 }
 
-/// The name of a verdict.
-fn name_of(verdict: Verdict) -> &'static str {
+/// Returns the name of a verdict, after a blank.
+fn name_verdict(verdict: Verdict) -> &'static str {
     match verdict {
         Verdict::Done => " done",
         Verdict::LeavePending => " leave",
@@ -469,7 +470,7 @@ fn name_of(verdict: Verdict) -> &'static str {
     }
 }
 
-/// Appends a field.
+/// Appends a blank, and a field as `name=value`.
 fn push_field(out: &mut String, name: &[u8], value: &[u8]) -> Result<(), AllocError> {
     out.push(' ')?;
     push_bytes(out, name)?;
@@ -477,7 +478,7 @@ fn push_field(out: &mut String, name: &[u8], value: &[u8]) -> Result<(), AllocEr
     push_bytes(out, value)
 }
 
-/// Appends an entry's id and fields, in order and with repeated ones.
+/// Appends the id and the fields of an entry, in order and with repeated ones.
 fn push_entry(out: &mut String, entry: &EntryRef<'_>) -> Result<(), AllocError> {
     out.push_str("; ")?;
     out.push_str(entry.id())?;
@@ -487,7 +488,7 @@ fn push_entry(out: &mut String, entry: &EntryRef<'_>) -> Result<(), AllocError> 
     Ok(())
 }
 
-impl Handler for Doer {
+impl Handler for ScriptHandler {
     ghost History = { Unit {0} };
 
     ghost with_verdict = { λ history e verdict. history };
@@ -497,21 +498,21 @@ impl Handler for Doer {
     ghost history = { λ handler. tt };
 
     fn handle(&mut self, alloc: Global, entry: &EntryRef<'_>) -> Verdict {
-        match self.note(alloc, entry) {
+        match self.record_entry(alloc, entry) {
             Ok(verdict) => verdict,
             Err(AllocError) => {
-                self.is_short = true;
+                self.ran_out = true;
                 Verdict::Stop
             }
         }
     }
 
     fn commit(&mut self, alloc: Global) -> Result<(), NotCommitted> {
-        if self.refuses {
+        if self.fails_commits {
             return Err(NotCommitted);
         }
         if self.kept.commit(alloc).is_err() {
-            self.is_short = true;
+            self.ran_out = true;
             return Err(NotCommitted);
         }
         self.commits = self.commits.saturating_add(1);

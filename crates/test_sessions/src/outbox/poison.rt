@@ -1,11 +1,11 @@
-//! An entry that ends the process each time that it is handled, among others: a worker with dead letters.
+//! A worker with dead letters, and an entry that ends the process each time that it is handled.
 //!
-//! A handler stops at an entry with a field `poison`. The text of a start has the entries that were committed before it
-//! ended, and those that the handler was given.
+//! A handler that stops, at an entry with a field `poison`, plays the end of the process. The text of a start has the
+//! entries that were committed before it ended, and those that the handler was given.
 ghost use Rattle.std.specs.Prelude.{◌≡◌, [], IfOk, string_bytes};
 
-use crate::group_settings;
-use crate::workers::Doer;
+use crate::make_group_settings;
+use crate::workers::ScriptHandler;
 use redis_connection::Connection;
 use std::alloc::{AllocError, Global};
 use std::io::{Read, Write};
@@ -15,36 +15,36 @@ use worker::{Asked, Progress, Settings, Worker};
 /// This number of rounds of a start is enough for every entry.
 const ROUNDS: u8 = 20;
 
-/// Starts another worker with this handler, which loses what is not committed. Entries with this number of deliveries
-/// are given up. It makes rounds until its handler stops, or `ROUNDS` of them.
-pub fn started<R: Read + Drop, W: Write + Drop>(
+/// Starts another worker with this handler, and drops the handler's entries that are not committed. The worker gives
+/// up entries with this number of deliveries. It makes rounds until its handler stops, or `ROUNDS` of them.
+pub fn start_worker<R: Read + Drop, W: Write + Drop>(
     alloc: Global,
     connection: &mut Connection<R, W>,
-    doer: &mut Doer,
+    handler: &mut ScriptHandler,
     deliveries: usize,
 ) -> Result<String, AllocError>
-    ensures { IfOk result (λ _. string_bytes doer.new.seen ≡ []) }
+    ensures { IfOk result (λ _. string_bytes handler.new.seen ≡ []) }
 {
-    doer.kept.loose.clear();
-    live(alloc, connection, doer, deliveries)?;
-    started_text(alloc, doer)
+    handler.kept.loose.clear();
+    run_worker(alloc, connection, handler, deliveries)?;
+    format_start(alloc, handler)
 }
 
-/// One start of a worker.
-fn live<R: Read + Drop, W: Write + Drop>(
+/// Runs a new worker until its handler stops, or for `ROUNDS` rounds.
+fn run_worker<R: Read + Drop, W: Write + Drop>(
     alloc: Global,
     connection: &mut Connection<R, W>,
-    doer: &mut Doer,
+    handler: &mut ScriptHandler,
     deliveries: usize,
 ) -> Result<(), AllocError> {
-    let mut settings = group_settings(alloc, "k", "c")?;
-    let mut search = search_of(alloc, &mut settings, deliveries)?;
+    let mut settings = make_group_settings(alloc, "k", "c")?;
+    let mut search = make_search(alloc, &mut settings, deliveries)?;
     let mut worker = Worker::new(alloc, settings);
-    make_rounds(alloc, connection, &mut search, &mut worker, doer)
+    make_rounds(alloc, connection, &mut search, &mut worker, handler)
 }
 
-/// The search of a worker with these settings.
-fn search_of(
+/// Returns the search for entries to give up, of a worker that is then made from these settings.
+fn make_search(
     alloc: Global,
     settings: &mut Settings,
     deliveries: usize,
@@ -62,16 +62,19 @@ fn make_rounds<R: Read + Drop, W: Write + Drop>(
     connection: &mut Connection<R, W>,
     search: &mut DeadLetterSearch,
     worker: &mut Worker,
-    doer: &mut Doer,
+    handler: &mut ScriptHandler,
 ) -> Result<(), AllocError> {
     let mut last = Asked::Nothing;
     for _ in 0..ROUNDS {
-        let in_hand = !doer.kept.loose.is_empty();
-        if search.turn(alloc, connection, last, in_hand).is_err() {
+        let has_uncommitted = !handler.kept.loose.is_empty();
+        if search
+            .turn(alloc, connection, last, has_uncommitted)
+            .is_err()
+        {
             return Err(AllocError);
         }
-        match asked(alloc, connection, worker, doer)? {
-            Some(asked) => last = asked,
+        match make_round(alloc, connection, worker, handler)? {
+            Some(request) => last = request,
             None => return Ok(()),
         }
     }
@@ -79,13 +82,13 @@ fn make_rounds<R: Read + Drop, W: Write + Drop>(
 }
 
 /// Makes a round. Returns its request, or `None` if the handler stopped.
-fn asked<R: Read + Drop, W: Write + Drop>(
+fn make_round<R: Read + Drop, W: Write + Drop>(
     alloc: Global,
     connection: &mut Connection<R, W>,
     worker: &mut Worker,
-    doer: &mut Doer,
+    handler: &mut ScriptHandler,
 ) -> Result<Option<Asked>, AllocError> {
-    match worker.round(alloc, connection, doer) {
+    match worker.round(alloc, connection, handler) {
         Ok(round) => match round.progress {
             Progress::Stopped => Ok(None),
             Progress::GoesOn => Ok(Some(round.asked)),
@@ -94,15 +97,15 @@ fn asked<R: Read + Drop, W: Write + Drop>(
     }
 }
 
-/// The ids of the entries that were committed so far, and what the handler was given.
-fn started_text(alloc: Global, doer: &mut Doer) -> Result<String, AllocError>
-    ensures { IfOk result (λ _. string_bytes doer.new.seen ≡ []) }
+/// Returns the ids of the entries that were committed so far, and the entries that the handler was given.
+fn format_start(alloc: Global, handler: &mut ScriptHandler) -> Result<String, AllocError>
+    ensures { IfOk result (λ _. string_bytes handler.new.seen ≡ []) }
 {
     let mut text = String::from_str(alloc, "committed")?;
-    for row in &doer.kept.committed {
+    for row in &handler.kept.committed {
         text.push(' ')?;
         text.push_str(row.id.as_str())?;
     }
-    text.push_str(doer.standing(alloc)?.as_str())?;
+    text.push_str(handler.take_report(alloc)?.as_str())?;
     Ok(text)
 }

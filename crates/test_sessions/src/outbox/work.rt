@@ -9,27 +9,27 @@ use worker::{EntryRef, NotCommitted, Verdict};
 
 /// Adds the id of each entry to the stream `out`. An entry with a field `leave` is left pending.
 #[derive(Drop)]
-pub struct Tells {
+pub struct IdPoster {
     /// How many times it committed.
     pub commits: u32,
     /// Whether memory ran out.
     pub ran_out: bool,
 }
 
-impl Tells {
-    /// Work before any entry.
-    pub fn new() -> Tells
+impl IdPoster {
+    /// Returns work that was given no entry.
+    pub fn new() -> IdPoster
         ensures commits { result.commits ≡ 0 }
         ensures ran_out { result.ran_out ≡ false }
     {
-        Tells {
+        IdPoster {
             commits: 0,
             ran_out: false,
         }
     }
 }
 
-impl Work for Tells {
+impl Work for IdPoster {
     ghost History = { Unit {0} };
 
     ghost with_verdict = { λ history e verdict. history };

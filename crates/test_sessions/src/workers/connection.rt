@@ -1,7 +1,7 @@
 //! Connections over readers and writers in memory, and a worker over one.
 //!
-//! The words of the first line are sizes: for each of them all lines are played once, with reads of at most
-//! that number of bytes. A line is one of these, or one of a worker:
+//! The words of the first line are sizes. All lines are played once for each size, with reads of at most that
+//! number of bytes. A line is one of these, or a step of a worker:
 //!
 //! | Line | Its meaning |
 //! |---|---|
@@ -9,17 +9,20 @@
 //! | `reads 3 interrupted 0` | the result of each read: at most 3 bytes, or an error; then no byte arrives |
 //! | `writes 5 broken` | the result of each write |
 //! | `send GET k` | a command is sent |
-//! | `text GET k`, `number GET k` | a command is sent, and its reply is read as a text, as a number |
-//! | `receive`, `place` | a reply is received, is received in place |
+//! | `text GET k`, `number GET k` | a command is sent, and its reply is read as a text, or as a number |
+//! | `receive`, `place` | a reply is received by value, or in place |
 //! | `any`, `passed` | a reply of any kind is received; the count of messages that were skipped |
-//! | `show 5`, `give 5` | 5 bytes in place are printed, are removed |
+//! | `show 5`, `give 5` | the first 5 received bytes are printed, or removed |
 //! | `run 7` | the worker makes 7 rounds |
 //! | `pipeline` | it makes a round, or two with one write |
 ghost use Rattle.std.specs.Prelude.{◌≡◌, IfOk};
 ghost use Rattle.test_sessions.specs.Scripts.{is_connection_script};
 
-use crate::workers::{LIMITS, Side, Spans, asked, done, error_text};
-use crate::{bytes_of, commands_text, number_of, parted, push_exchange, push_line, text_of};
+use crate::workers::{LIMITS, Side, Spans, do_step, format_error, make_request};
+use crate::{
+    escape_bytes, format_commands, parse_bytes, parse_number, push_exchange, push_line,
+    split_at_mark,
+};
 use redis_connection::{AskError, Connection, ConnectionError};
 use redis_resp::FromRedisValue;
 use redis_wire::{Protocol, Reply, append_answer};
@@ -37,32 +40,32 @@ enum Turn {
     Fails(ErrorKind),
 }
 
-/// A reader that returns bytes in turns, one a call, or a writer that accepts them so.
+/// A reader or a writer in memory. Each call takes the next of its turns.
 #[derive(Drop)]
 struct End {
     /// The bytes that arrive, or those that were written.
     bytes: Vec<u8>,
     /// How many of them were read.
-    at: usize,
-    /// The effect of each call, the last one first.
+    position: usize,
+    /// The turns of the next calls, the last one first.
     turns: Vec<Turn>,
-    /// The most bytes that a call without an effect of its own moves.
+    /// The most bytes that a call without a turn moves.
     most: usize,
 }
 
 impl End {
-    /// An end of no bytes, whose calls move at most `most` bytes.
+    /// Returns an end without bytes, whose calls move at most `most` bytes.
     fn new(alloc: Global, most: usize) -> End {
         End {
             bytes: Vec::new(alloc),
-            at: 0,
+            position: 0,
             turns: Vec::new(alloc),
             most,
         }
     }
 
-    /// The most bytes that the next call moves.
-    fn next(&mut self) -> io::Result<usize> {
+    /// Takes the turn of the next call. Returns the most bytes that it moves, or its error.
+    fn take_turn(&mut self) -> io::Result<usize> {
         match self.turns.pop() {
             Some(Turn::Moves(most)) => Ok(most),
             Some(Turn::Fails(kind)) => Err(io::Error::from(kind)),
@@ -70,49 +73,49 @@ impl End {
         }
     }
 
-    /// Sets the effects of the next calls; after them nothing is moved.
-    fn say(&mut self, words: &str) -> Result<(), AllocError> {
+    /// Sets the turns of the next calls. Calls after them move nothing.
+    fn set_turns(&mut self, words: &str) -> Result<(), AllocError> {
         self.most = 0;
         for word in words.split(' ') {
-            self.turns.insert(0, turn_of(word))?;
+            self.turns.insert(0, parse_turn(word))?;
         }
         Ok(())
     }
 
     /// Adds these bytes to those that arrive.
-    fn come(&mut self, alloc: Global, text: &str) -> Result<(), AllocError> {
-        let mut bytes = bytes_of(alloc, text)?;
+    fn add_bytes(&mut self, alloc: Global, text: &str) -> Result<(), AllocError> {
+        let mut bytes = parse_bytes(alloc, text)?;
         self.bytes.append(&mut bytes)
     }
 }
 
-/// The effect of this name.
-fn turn_of(word: &str) -> Turn {
+/// Returns the turn of this name, or of this number of bytes.
+fn parse_turn(word: &str) -> Turn {
     match word {
         "interrupted" => Turn::Fails(ErrorKind::Interrupted),
         "reset" => Turn::Fails(ErrorKind::ConnectionReset),
         "broken" => Turn::Fails(ErrorKind::BrokenPipe),
-        _ => Turn::Moves(number_of(word)),
+        _ => Turn::Moves(parse_number(word)),
     }
 }
 
 impl Read for End {
     fn read(&mut self, buf: &mut [u8]) -> io::Result<usize> {
-        let most = self.next()?;
+        let most = self.take_turn()?;
         let mut len = 0usize;
-        let from = self.at.min(self.bytes.len());
+        let from = self.position.min(self.bytes.len());
         for (place, byte) in buf.iter_mut().take(most).zip(self.bytes[from..].iter()) {
             *place = *byte;
             len = len.saturating_add(1);
         }
-        self.at = self.at.saturating_add(len);
+        self.position = self.position.saturating_add(len);
         Ok(len.min(buf.len()))
     }
 }
 
 impl Write for End {
     fn write(&mut self, buf: &[u8]) -> io::Result<usize> {
-        let len = self.next()?.min(buf.len());
+        let len = self.take_turn()?.min(buf.len());
         self.bytes.extend_from_slice(&buf[..len])?;
         Ok(len)
     }
@@ -122,163 +125,172 @@ impl Write for End {
     }
 }
 
-/// Applies a line on the reader or the writer.
-fn set_up(alloc: Global, line: &str, reader: &mut End, writer: &mut End) -> Result<(), AllocError> {
-    match parted(line, ' ') {
-        ("comes", rest) => reader.come(alloc, rest),
-        ("reads", rest) => reader.say(rest),
-        ("writes", rest) => writer.say(rest),
+/// Applies a line to the reader or the writer. A line about neither is skipped.
+fn set_up_end(
+    alloc: Global,
+    line: &str,
+    reader: &mut End,
+    writer: &mut End,
+) -> Result<(), AllocError> {
+    match split_at_mark(line, ' ') {
+        ("comes", rest) => reader.add_bytes(alloc, rest),
+        ("reads", rest) => reader.set_turns(rest),
+        ("writes", rest) => writer.set_turns(rest),
         _ => Ok(()),
     }
 }
 
-/// Applies the lines on the reader and the writer.
-fn set_up_all(
+/// Applies the lines about the reader and the writer to them.
+fn set_up_ends(
     alloc: Global,
     lines: &str,
     reader: &mut End,
     writer: &mut End,
 ) -> Result<(), AllocError> {
     for line in lines.lines() {
-        set_up(alloc, line, reader, writer)?;
+        set_up_end(alloc, line, reader, writer)?;
     }
     Ok(())
 }
 
-/// The name and the text of an error of a connection.
-fn failure_text(alloc: Global, error: &ConnectionError) -> Result<String, AllocError> {
+/// Returns the name and the text of an error of a connection.
+fn format_connection_error(alloc: Global, error: &ConnectionError) -> Result<String, AllocError> {
     match error {
         ConnectionError::Memory => Err(AllocError),
         error => format!(in alloc; "{error:?}: {error}"),
     }
 }
 
-/// The name and the text of the error of a command.
-fn ask_text(alloc: Global, error: &AskError) -> Result<String, AllocError> {
+/// Returns the name and the text of the error of a command.
+fn format_ask_error(alloc: Global, error: &AskError) -> Result<String, AllocError> {
     match error {
-        AskError::Connection(error) => failure_text(alloc, error),
+        AskError::Connection(error) => format_connection_error(alloc, error),
         AskError::Server(_) => format!(in alloc; "Server: {error}"),
         error => format!(in alloc; "{error:?}: {error}"),
     }
 }
 
 /// Sends a command.
-fn sent<R: Read + Drop, W: Write + Drop>(
+fn send_command<R: Read + Drop, W: Write + Drop>(
     alloc: Global,
     link: &mut Connection<R, W>,
     rest: &str,
 ) -> Result<String, AllocError> {
-    match link.send(alloc, &parted(rest, ' ')) {
+    match link.send(alloc, &split_at_mark(rest, ' ')) {
         Ok(()) => String::from_str(alloc, "Ok"),
-        Err(error) => failure_text(alloc, &error),
+        Err(error) => format_connection_error(alloc, &error),
     }
 }
 
 /// Sends a command, and reads its reply as a `T`.
-fn answered<T: FromRedisValue + Display, R: Read + Drop, W: Write + Drop>(
+fn ask_value<T: FromRedisValue + Display, R: Read + Drop, W: Write + Drop>(
     alloc: Global,
     link: &mut Connection<R, W>,
     rest: &str,
 ) -> Result<String, AllocError> {
-    match link.ask_as::<T, (&str, &str)>(alloc, &parted(rest, ' ')) {
+    match link.ask_as::<T, (&str, &str)>(alloc, &split_at_mark(rest, ' ')) {
         Ok(value) => format!(in alloc; "{value}"),
-        Err(error) => ask_text(alloc, &error),
+        Err(error) => format_ask_error(alloc, &error),
     }
 }
 
-/// A reply as bytes of RESP3.
-fn reply_text(alloc: Global, reply: &Reply) -> Result<String, AllocError> {
+/// Returns a reply as the bytes of RESP3, in the notation of scripts.
+fn format_reply(alloc: Global, reply: &Reply) -> Result<String, AllocError> {
     let mut bytes = Vec::new(alloc);
     match append_answer(alloc, &mut bytes, Protocol::Resp3, reply) {
-        Ok(()) => text_of(alloc, &bytes),
+        Ok(()) => escape_bytes(alloc, &bytes),
         Err(_error) => Err(AllocError),
     }
 }
 
-/// The received reply, or the error.
-fn received_text(
+/// Returns the received reply, or the error, as text.
+fn format_received(
     alloc: Global,
     received: &Result<Reply, ConnectionError>,
 ) -> Result<String, AllocError> {
     match received {
-        Ok(reply) => reply_text(alloc, reply),
-        Err(error) => failure_text(alloc, error),
+        Ok(reply) => format_reply(alloc, reply),
+        Err(error) => format_connection_error(alloc, error),
     }
 }
 
 /// Receives a reply in place.
-fn placed<R: Read + Drop, W: Write + Drop>(
+fn receive_in_place<R: Read + Drop, W: Write + Drop>(
     alloc: Global,
     link: &mut Connection<R, W>,
 ) -> Result<String, AllocError> {
     match link.receive_in_place(alloc) {
         Ok(len) => {
-            let reply = text_of(alloc, link.received(len))?;
+            let reply = escape_bytes(alloc, link.received(len))?;
             format!(in alloc; "{len} bytes: {}", reply.as_str())
         }
-        Err(error) => failure_text(alloc, &error),
+        Err(error) => format_connection_error(alloc, &error),
     }
 }
 
-/// The result of rounds, as text.
-fn run_text(alloc: Global, outcome: &Result<Progress, RunError>) -> Result<String, AllocError> {
+/// Returns the result of rounds as text.
+fn format_run(alloc: Global, outcome: &Result<Progress, RunError>) -> Result<String, AllocError> {
     match outcome {
         Ok(progress) => format!(in alloc; "{progress:?}"),
         Err(RunError::Request(RequestError::Memory)) => Err(AllocError),
         Err(RunError::Request(error)) => format!(in alloc; "Request: {error:?}: {error}"),
-        Err(RunError::Send(error)) => kind_text(alloc, "Send: ", error),
-        Err(RunError::Receive { asked, error }) => unanswered_text(alloc, *asked, error),
-        Err(RunError::Answer(error)) => error_text(alloc, error),
+        Err(RunError::Send(error)) => format_step_error(alloc, "Send: ", error),
+        Err(RunError::Receive { asked, error }) => format_receive_error(alloc, *asked, error),
+        Err(RunError::Answer(error)) => format_error(alloc, error),
     }
 }
 
-/// An error of a connection, with the step that failed.
-fn kind_text(alloc: Global, kind: &str, error: &ConnectionError) -> Result<String, AllocError> {
-    let text = failure_text(alloc, error)?;
-    format!(in alloc; "{kind}{}", text.as_str())
+/// Returns an error of a connection as text, after the step that failed.
+fn format_step_error(
+    alloc: Global,
+    step: &str,
+    error: &ConnectionError,
+) -> Result<String, AllocError> {
+    let text = format_connection_error(alloc, error)?;
+    format!(in alloc; "{step}{}", text.as_str())
 }
 
-/// An error in place of the reply to this request.
-fn unanswered_text(
+/// Returns an error of a connection as text, after the request whose reply did not arrive.
+fn format_receive_error(
     alloc: Global,
     asked: Asked,
     error: &ConnectionError,
 ) -> Result<String, AllocError> {
-    let text = failure_text(alloc, error)?;
+    let text = format_connection_error(alloc, error)?;
     format!(in alloc; "Receive: {asked}: {}", text.as_str())
 }
 
-/// The worker makes this number of rounds.
-fn ran<R: Read + Drop, W: Write + Drop>(
+/// Has the worker make this number of rounds, and returns their result.
+fn run_rounds<R: Read + Drop, W: Write + Drop>(
     alloc: Global,
     link: &mut Connection<R, W>,
     side: &mut Side,
     rounds: u64,
 ) -> Result<String, AllocError> {
-    let result = side.worker.run(alloc, link, &mut side.doer, rounds);
-    let mut text = run_text(alloc, &result)?;
-    text.push_str(side.doer.standing(alloc)?.as_str())?;
+    let result = side.worker.run(alloc, link, &mut side.handler, rounds);
+    let mut text = format_run(alloc, &result)?;
+    text.push_str(side.handler.take_report(alloc)?.as_str())?;
     Ok(text)
 }
 
-/// The worker makes a round, or two with one write.
-fn pipelined<R: Read + Drop, W: Write + Drop>(
+/// Has the worker make a round, or two with one write, and returns their result.
+fn run_pipelined<R: Read + Drop, W: Write + Drop>(
     alloc: Global,
     link: &mut Connection<R, W>,
     side: &mut Side,
 ) -> Result<String, AllocError> {
-    let mut text = match side.worker.round_pipelined(alloc, link, &mut side.doer) {
-        Ok(made) => made_text(alloc, made)?,
-        Err(error) => run_text(alloc, &Err(error))?,
+    let mut text = match side.worker.round_pipelined(alloc, link, &mut side.handler) {
+        Ok(pipelined) => format_pipelined(alloc, pipelined)?,
+        Err(error) => format_run(alloc, &Err(error))?,
     };
-    text.push_str(side.doer.standing(alloc)?.as_str())?;
+    text.push_str(side.handler.take_report(alloc)?.as_str())?;
     Ok(text)
 }
 
-/// The request of the round, whether an acknowledgement preceded it, and whether the handler goes on.
-fn made_text(alloc: Global, made: Pipelined) -> Result<String, AllocError> {
-    let round = made.round;
-    if made.acknowledged {
+/// Returns the request of the round, whether an acknowledgement preceded it, and whether the handler goes on.
+fn format_pipelined(alloc: Global, pipelined: Pipelined) -> Result<String, AllocError> {
+    let round = pipelined.round;
+    if pipelined.acknowledged {
         format!(in alloc;
             "Acknowledgement and {:?}, {:?}",
             round.asked, round.progress
@@ -291,19 +303,19 @@ fn made_text(alloc: Global, made: Pipelined) -> Result<String, AllocError> {
 /// The subject of a line.
 #[derive(Clone, Copy)]
 enum Subject {
-    /// The reader or the writer, which were set up before the first line.
+    /// The reader or the writer, which were set up before the first line was executed.
     Ends,
-    Question,
+    Command,
     Reply,
     Rounds,
     Worker,
 }
 
-/// The subject of a line with this word.
-fn subject_of(verb: &str) -> Subject {
+/// Returns the subject of a line whose first word is `verb`.
+fn find_subject(verb: &str) -> Subject {
     match verb {
         "comes" | "reads" | "writes" => Subject::Ends,
-        "send" | "text" | "number" => Subject::Question,
+        "send" | "text" | "number" => Subject::Command,
         "receive" | "place" | "any" | "passed" | "show" | "give" => Subject::Reply,
         "run" | "pipeline" => Subject::Rounds,
         _ => Subject::Worker,
@@ -311,32 +323,32 @@ fn subject_of(verb: &str) -> Subject {
 }
 
 /// Sends a command, and may read its reply.
-fn ask<R: Read + Drop, W: Write + Drop>(
+fn handle_command<R: Read + Drop, W: Write + Drop>(
     alloc: Global,
     link: &mut Connection<R, W>,
     verb: &str,
     rest: &str,
 ) -> Result<String, AllocError> {
     match verb {
-        "send" => sent(alloc, link, rest),
-        "text" => answered::<String, R, W>(alloc, link, rest),
-        _ => answered::<usize, R, W>(alloc, link, rest),
+        "send" => send_command(alloc, link, rest),
+        "text" => ask_value::<String, R, W>(alloc, link, rest),
+        _ => ask_value::<usize, R, W>(alloc, link, rest),
     }
 }
 
 /// Receives a reply, prints or removes its bytes, or counts the messages that were skipped.
-fn take<R: Read + Drop, W: Write + Drop>(
+fn handle_reply<R: Read + Drop, W: Write + Drop>(
     alloc: Global,
     link: &mut Connection<R, W>,
     verb: &str,
     len: usize,
 ) -> Result<String, AllocError> {
     match verb {
-        "receive" => received_text(alloc, &link.receive(alloc)),
-        "any" => received_text(alloc, &link.receive_any(alloc)),
+        "receive" => format_received(alloc, &link.receive(alloc)),
+        "any" => format_received(alloc, &link.receive_any(alloc)),
         "passed" => format!(in alloc; "{}", link.passed()),
-        "place" => placed(alloc, link),
-        "show" => text_of(alloc, link.received(len)),
+        "place" => receive_in_place(alloc, link),
+        "show" => escape_bytes(alloc, link.received(len)),
         _ => {
             link.give_out(len);
             Ok(String::new(alloc))
@@ -344,29 +356,34 @@ fn take<R: Read + Drop, W: Write + Drop>(
     }
 }
 
-/// Does what a line asks for.
+/// Executes a line, and returns its result.
 fn do_line<R: Read + Drop, W: Write + Drop>(
     alloc: Global,
     link: &mut Connection<R, W>,
     side: &mut Side,
     line: &str,
 ) -> Result<String, AllocError> {
-    let (verb, rest) = parted(line, ' ');
-    match subject_of(verb) {
+    let (verb, rest) = split_at_mark(line, ' ');
+    match find_subject(verb) {
         Subject::Ends => Ok(String::new(alloc)),
-        Subject::Question => ask(alloc, link, verb, rest),
-        Subject::Reply => take(alloc, link, verb, number_of(rest)),
-        Subject::Rounds if verb == "run" => ran(alloc, link, side, number_of(rest) as u64),
-        Subject::Rounds => pipelined(alloc, link, side),
-        Subject::Worker => done(alloc, side, verb, rest),
+        Subject::Command => handle_command(alloc, link, verb, rest),
+        Subject::Reply => handle_reply(alloc, link, verb, parse_number(rest)),
+        Subject::Rounds if verb == "run" => run_rounds(
+            alloc,
+            link,
+            side,
+            parse_number(rest) as u64,
+        ),
+        Subject::Rounds => run_pipelined(alloc, link, side),
+        Subject::Worker => do_step(alloc, side, verb, rest),
     }
 }
 
-/// Appends the results of the lines, and the commands that were sent, with reads of at most `most` bytes.
+/// Executes the lines with reads of at most `most` bytes. Appends the results, and the commands that were sent.
 fn play_over(alloc: Global, lines: &str, most: usize, out: &mut String) -> Result<(), AllocError> {
     let mut reader = End::new(alloc, most);
     let mut writer = End::new(alloc, usize::MAX);
-    set_up_all(alloc, lines, &mut reader, &mut writer)?;
+    set_up_ends(alloc, lines, &mut reader, &mut writer)?;
     play_between(alloc, reader, &mut writer, lines, out)?;
     push_sent(alloc, &writer.bytes, out)
 }
@@ -374,10 +391,10 @@ fn play_over(alloc: Global, lines: &str, most: usize, out: &mut String) -> Resul
 /// Appends the commands that were sent.
 fn push_sent(alloc: Global, bytes: &[u8], out: &mut String) -> Result<(), AllocError> {
     out.push_str("sent: ")?;
-    push_line(out, commands_text(alloc, bytes)?.as_str())
+    push_line(out, format_commands(alloc, bytes)?.as_str())
 }
 
-/// Does what the lines ask for, over a connection of these ends.
+/// Executes the lines over a connection of this reader and writer.
 fn play_between<R: Read + Drop, W: Write + Drop>(
     alloc: Global,
     reader: R,
@@ -390,7 +407,7 @@ fn play_between<R: Read + Drop, W: Write + Drop>(
     do_lines(alloc, &mut link, &mut side, lines, out)
 }
 
-/// Does what the lines ask for.
+/// Executes each line, and appends its result.
 fn do_lines<R: Read + Drop, W: Write + Drop>(
     alloc: Global,
     link: &mut Connection<R, W>,
@@ -405,7 +422,7 @@ fn do_lines<R: Read + Drop, W: Write + Drop>(
     Ok(())
 }
 
-/// Plays a script of this name. Returns whether it is one of this module.
+/// Plays the script if this module has one of this name. Returns whether it has.
 pub fn play(
     alloc: Global,
     name: &str,
@@ -428,7 +445,7 @@ pub fn play(
     }
 }
 
-/// Plays a connection, once for each size.
+/// Plays a connection once for each size. A transcript that equals the last one is not printed again.
 fn play_sizes(alloc: Global, words: &str, lines: &str, out: &mut String) -> Result<(), AllocError> {
     let mut last = String::new(alloc);
     for word in words.split(' ') {
@@ -446,21 +463,21 @@ fn play_sizes(alloc: Global, words: &str, lines: &str, out: &mut String) -> Resu
     Ok(())
 }
 
-/// The outcome of `rounds` rounds over these bytes. The commands that were sent are appended to `sent`.
-fn ended(
+/// Makes `rounds` rounds over these bytes, and returns their outcome. Appends the commands that were sent to `sent`.
+fn run_over(
     alloc: Global,
     bytes: &[u8],
     rounds: u64,
     sent: &mut Vec<u8>,
 ) -> Result<String, AllocError> {
     let mut side = Side::new(alloc, "", true)?;
-    let mut text = ran_between(alloc, bytes, sent, &mut side, rounds)?;
-    push_next(alloc, &mut side, &mut text)?;
+    let mut text = run_between(alloc, bytes, sent, &mut side, rounds)?;
+    push_next_request(alloc, &mut side, &mut text)?;
     Ok(text)
 }
 
-/// The worker makes this number of rounds over a connection of these ends.
-fn ran_between<R: Read + Drop, W: Write + Drop>(
+/// Has the worker make this number of rounds over a connection of this reader and writer.
+fn run_between<R: Read + Drop, W: Write + Drop>(
     alloc: Global,
     reader: R,
     writer: W,
@@ -468,66 +485,66 @@ fn ran_between<R: Read + Drop, W: Write + Drop>(
     rounds: u64,
 ) -> Result<String, AllocError> {
     let mut link = Connection::new(alloc, reader, writer, LIMITS)?;
-    ran(alloc, &mut link, side, rounds)
+    run_rounds(alloc, &mut link, side, rounds)
 }
 
 /// Appends the next request of a worker.
-fn push_next(alloc: Global, side: &mut Side, text: &mut String) -> Result<(), AllocError> {
+fn push_next_request(alloc: Global, side: &mut Side, text: &mut String) -> Result<(), AllocError> {
     text.push_str("; next: ")?;
-    text.push_str(asked(alloc, &mut side.worker, &mut side.doer)?.as_str())
+    text.push_str(make_request(alloc, &mut side.worker, &mut side.handler)?.as_str())
 }
 
-/// The outcome of a run whose bytes end too early, compared with the commands of the whole run.
-fn front_text(
+/// Makes a run whose bytes end too early. Compares what it sent with the commands of the whole run.
+fn run_prefix(
     alloc: Global,
     bytes: &[u8],
     rounds: u64,
     whole: &[u8],
 ) -> Result<String, AllocError> {
     let mut sent = Vec::new(alloc);
-    let mut text = ended(alloc, bytes, rounds, &mut sent)?;
+    let mut text = run_over(alloc, bytes, rounds, &mut sent)?;
     text.push_str(if whole.starts_with(&sent) {
         "; sent a front: "
     } else {
         "; sent otherwise: "
     })?;
-    text.push_str(commands_text(alloc, &sent)?.as_str())?;
+    text.push_str(format_commands(alloc, &sent)?.as_str())?;
     Ok(text)
 }
 
-/// The bytes of all lines.
-fn input_of(alloc: Global, lines: &str) -> Result<Vec<u8>, AllocError> {
+/// Returns the bytes of all lines.
+fn parse_input(alloc: Global, lines: &str) -> Result<Vec<u8>, AllocError> {
     let mut input = Vec::new(alloc);
     for line in lines.lines() {
-        input.append(&mut bytes_of(alloc, line)?)?;
+        input.append(&mut parse_bytes(alloc, line)?)?;
     }
     Ok(input)
 }
 
-/// Plays runs over a connection that ends after each byte of the input.
+/// Plays a run over all bytes of the input, and one over each proper prefix of them.
 fn play_ends(alloc: Global, words: &str, lines: &str, out: &mut String) -> Result<(), AllocError> {
-    let input = input_of(alloc, lines)?;
-    let rounds = number_of(words) as u64;
+    let input = parse_input(alloc, lines)?;
+    let rounds = parse_number(words) as u64;
     let mut sent = Vec::new(alloc);
-    let text = ended(alloc, &input, rounds, &mut sent)?;
-    push_exchange(out, commands_text(alloc, &sent)?.as_str(), text.as_str())?;
-    push_line(out, fronts_text(alloc, &input, rounds, &sent)?.as_str())
+    let text = run_over(alloc, &input, rounds, &mut sent)?;
+    push_exchange(out, format_commands(alloc, &sent)?.as_str(), text.as_str())?;
+    push_line(out, run_prefixes(alloc, &input, rounds, &sent)?.as_str())
 }
 
-/// The outcomes of runs whose bytes end after each byte of the input.
-fn fronts_text(
+/// Returns the outcomes of the runs over each proper prefix of the input.
+fn run_prefixes(
     alloc: Global,
     input: &[u8],
     rounds: u64,
     whole: &[u8],
 ) -> Result<String, AllocError> {
     let mut spans = Spans::new(alloc);
-    add_fronts(alloc, input, rounds, whole, &mut spans)?;
-    spans.finished()
+    add_prefixes(alloc, input, rounds, whole, &mut spans)?;
+    spans.finish()
 }
 
-/// Adds the outcomes of these runs.
-fn add_fronts(
+/// Adds the outcome of the run over each proper prefix of the input.
+fn add_prefixes(
     alloc: Global,
     input: &[u8],
     rounds: u64,
@@ -535,7 +552,7 @@ fn add_fronts(
     spans: &mut Spans,
 ) -> Result<(), AllocError> {
     for end in 0..input.len() {
-        let text = front_text(alloc, &input[..end], rounds, whole)?;
+        let text = run_prefix(alloc, &input[..end], rounds, whole)?;
         spans.add(text)?;
     }
     Ok(())

@@ -4,10 +4,10 @@
 ghost use Rattle.std.specs.Prelude.{◌≡◌, IfOk};
 ghost use Rattle.test_sessions.specs.Scripts.{is_streams_script};
 
-use crate::workers::{Doer, told};
+use crate::workers::{ScriptHandler, read_reply};
 use crate::{
-    answered, commands_text, group_settings, number_of, parted, protocol_of, push_exchange,
-    push_line, tell_all,
+    format_commands, make_group_settings, parse_number, parse_protocol, push_exchange, push_line,
+    run_command, run_lines, split_at_mark,
 };
 use redis_wire::{Decoded, Limits, command_words, decode};
 use server_commands::{Server, Session};
@@ -21,20 +21,20 @@ struct Peer {
     session: Session,
 }
 
-/// A worker for each stream.
-fn workers_of(alloc: Global, keys: &str) -> Result<Vec<Worker>, AllocError> {
+/// Returns a worker for each stream.
+fn make_workers(alloc: Global, keys: &str) -> Result<Vec<Worker>, AllocError> {
     let mut workers = Vec::new(alloc);
     for key in keys.split(' ') {
-        workers.push(Worker::new(alloc, group_settings(alloc, key, "ann")?))?;
+        workers.push(Worker::new(alloc, make_group_settings(alloc, key, "ann")?))?;
     }
     Ok(workers)
 }
 
-/// The bytes of the reply to the command in these bytes; no bytes if they hold no command.
-fn answer_to(alloc: Global, peer: &mut Peer, question: &[u8]) -> Result<Vec<u8>, AllocError> {
-    match decode(alloc, question, Limits::default()) {
+/// Executes the command in these bytes, and returns the bytes of the reply; no bytes if they hold no command.
+fn run_request(alloc: Global, peer: &mut Peer, request: &[u8]) -> Result<Vec<u8>, AllocError> {
+    match decode(alloc, request, Limits::default()) {
         Ok(Decoded::Complete { reply, len: _ }) => match command_words(alloc, reply)? {
-            Some(words) => answered(alloc, &mut peer.server, 0, &mut peer.session, words),
+            Some(words) => run_command(alloc, &mut peer.server, 0, &mut peer.session, words),
             None => Ok(Vec::new(alloc)),
         },
         Ok(Decoded::Incomplete) => Ok(Vec::new(alloc)),
@@ -42,28 +42,28 @@ fn answer_to(alloc: Global, peer: &mut Peer, question: &[u8]) -> Result<Vec<u8>,
     }
 }
 
-/// A worker sends a command, and takes the reply.
-fn turn(
+/// Has a worker send its next command and take the reply, and prints both.
+fn play_turn(
     alloc: Global,
     peer: &mut Peer,
     worker: &mut Worker,
-    doer: &mut Doer,
+    handler: &mut ScriptHandler,
     out: &mut String,
 ) -> Result<(), AllocError> {
-    let mut question = Vec::new(alloc);
-    if worker.request(alloc, &mut question, doer).is_err() {
+    let mut request = Vec::new(alloc);
+    if worker.request(alloc, &mut request, handler).is_err() {
         return Err(AllocError);
     }
-    let answer = answer_to(alloc, peer, &question)?;
-    let text = told(alloc, worker, doer, false, &answer)?;
+    let reply = run_request(alloc, peer, &request)?;
+    let text = read_reply(alloc, worker, handler, false, &reply)?;
     push_exchange(
         out,
-        commands_text(alloc, &question)?.as_str(),
+        format_commands(alloc, &request)?.as_str(),
         text.as_str(),
     )
 }
 
-/// Plays a script of this name. Returns whether it is one of this module.
+/// Plays the script if this module has one of this name. Returns whether it has.
 pub fn play(
     alloc: Global,
     name: &str,
@@ -89,20 +89,25 @@ fn play_streams(
     lines: &str,
     out: &mut String,
 ) -> Result<(), AllocError> {
-    let (protocol, rest) = parted(words, ' ');
-    let (turns, keys) = parted(rest, ' ');
+    let (protocol, rest) = split_at_mark(words, ' ');
+    let (turns, keys) = split_at_mark(rest, ' ');
     let mut peer = Peer {
         server: Server::new(alloc),
-        session: Session::new(alloc, protocol_of(protocol)),
+        session: Session::new(alloc, parse_protocol(protocol)),
     };
-    tell(alloc, &mut peer, lines, out)?;
-    play_turns(alloc, &mut peer, number_of(turns), keys, out)?;
-    tell_pending(alloc, &mut peer, keys, out)
+    run_commands(alloc, &mut peer, lines, out)?;
+    play_turns(alloc, &mut peer, parse_number(turns), keys, out)?;
+    push_pending(alloc, &mut peer, keys, out)
 }
 
-/// Runs commands on the server, and prints the replies.
-fn tell(alloc: Global, peer: &mut Peer, lines: &str, out: &mut String) -> Result<(), AllocError> {
-    tell_all(alloc, &mut peer.server, &mut peer.session, lines, out)
+/// Executes commands on the server, and prints the replies.
+fn run_commands(
+    alloc: Global,
+    peer: &mut Peer,
+    lines: &str,
+    out: &mut String,
+) -> Result<(), AllocError> {
+    run_lines(alloc, &mut peer.server, &mut peer.session, lines, out)
 }
 
 /// Plays new workers of these streams, each for this number of turns.
@@ -113,31 +118,31 @@ fn play_turns(
     keys: &str,
     out: &mut String,
 ) -> Result<(), AllocError> {
-    let mut workers = workers_of(alloc, keys)?;
-    let mut doer = Doer::new(alloc);
-    turn_all(alloc, peer, &mut workers, &mut doer, turns, out)?;
-    push_line(out, doer.standing(alloc)?.as_str())
+    let mut workers = make_workers(alloc, keys)?;
+    let mut handler = ScriptHandler::new(alloc);
+    play_all_turns(alloc, peer, &mut workers, &mut handler, turns, out)?;
+    push_line(out, handler.take_report(alloc)?.as_str())
 }
 
 /// Gives each worker this number of turns.
-fn turn_all(
+fn play_all_turns(
     alloc: Global,
     peer: &mut Peer,
     workers: &mut Vec<Worker>,
-    doer: &mut Doer,
+    handler: &mut ScriptHandler,
     turns: usize,
     out: &mut String,
 ) -> Result<(), AllocError> {
     for _ in 0..turns {
         for worker in workers.iter_mut() {
-            turn(alloc, peer, worker, doer, out)?;
+            play_turn(alloc, peer, worker, handler, out)?;
         }
     }
     Ok(())
 }
 
 /// Prints the pending entries of these streams.
-fn tell_pending(
+fn push_pending(
     alloc: Global,
     peer: &mut Peer,
     keys: &str,
@@ -145,7 +150,7 @@ fn tell_pending(
 ) -> Result<(), AllocError> {
     for key in keys.split(' ') {
         let line = format!(in alloc; "XPENDING {key} g")?;
-        tell(alloc, peer, line.as_str(), out)?;
+        run_commands(alloc, peer, line.as_str(), out)?;
     }
     Ok(())
 }

@@ -1,6 +1,6 @@
 use Rattle.std.proofs.Common.{◌≡◌}
 use Rattle.std.specs.Prelude.{length}
-use Rattle.test_sessions.proofs.producer.records_of.Given as goal
+use Rattle.test_sessions.proofs.producer.make_records.Given as goal
 
 -- the records made so far
 abbrev pub invariant-loop-index : goal.invariant-loop-index
