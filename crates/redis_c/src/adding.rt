@@ -4,13 +4,13 @@ ghost use Rattle.stream_options.specs.View.{idempotency_of};
 ghost use Rattle.redis_c.specs.Settings.{idempotency_in, add_in, Makes};
 
 use crate::settings::{AddSettings, Unset};
-use crate::trimming::{any_strategy_in, policy_by, utf8_at};
+use crate::trimming::{build_any_strategy, find_policy, utf8_at};
 use std::alloc::Global;
 use stream_option_parsing::{AddParts, add_with};
 use stream_options::{StreamAddOptions, StreamIdempotencyMode};
 
 /// How the server detects duplicates, if it does.
-fn idempotency_in(
+fn build_idempotency(
     alloc: Global,
     bytes: &[u8],
     settings: &AddSettings,
@@ -35,16 +35,16 @@ fn idempotency_in(
 }
 
 /// The settings of XADD.
-pub fn add_in(
+pub fn build_add_options(
     alloc: Global,
     bytes: &[u8],
     settings: &AddSettings,
 ) -> Result<StreamAddOptions, Unset>
     ensures { Makes (λ options. options) result (add_in bytes.now settings.now) }
 {
-    let policy = policy_by(settings.trim.policy)?;
-    let idempotency = idempotency_in(alloc, bytes, settings)?;
-    let strategy = any_strategy_in(alloc, bytes, &settings.trim)?;
+    let policy = find_policy(settings.trim.policy)?;
+    let idempotency = build_idempotency(alloc, bytes, settings)?;
+    let strategy = build_any_strategy(alloc, bytes, &settings.trim)?;
     Ok(add_with(AddParts {
         nomkstream: settings.nomkstream,
         policy,

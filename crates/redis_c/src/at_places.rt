@@ -5,7 +5,7 @@ ghost use Rattle.redis_c.specs.Placed.{ids_at, fields_at};
 ghost use Rattle.redis_c.specs.Commands.{ack_args, add_args, claim_args};
 
 use crate::argument::Argument;
-use crate::packing::{Packing, packed};
+use crate::packing::{Packing, write_command};
 use crate::placed::{Unplaced, fields_at, ids_at};
 use std::alloc::Global;
 use stream_commands::{AtLeastOne, xack, xadd, xclaim};
@@ -23,7 +23,7 @@ pub fn of_unplaced(unplaced: Unplaced) -> Packing
 }
 
 /// Packs XACK of the entries at these places.
-fn packed_ack(
+fn write_ack(
     alloc: Global,
     key: &[u8],
     group: &[u8],
@@ -38,7 +38,7 @@ fn packed_ack(
         Err(unplaced) => return of_unplaced(unplaced),
     };
     match AtLeastOne::new(&ids) {
-        Some(ids) => packed(alloc, &xack(Argument(key), Argument(group), ids), out),
+        Some(ids) => write_command(alloc, &xack(Argument(key), Argument(group), ids), out),
         None => Packing::Nothing,
     }
 }
@@ -57,11 +57,11 @@ pub extern "C" fn redis_xack_entries(
     ensures { IsPackedAs (IsPackingOf (ack_args key.now group.now) (ids_at bytes.now entries.now) out.new)
         result len.new }
 {
-    packed_ack(alloc, key, group, bytes, entries, out).tell(len)
+    write_ack(alloc, key, group, bytes, entries, out).tell(len)
 }
 
 /// Packs XCLAIM of the entries at these places.
-fn packed_claim(
+fn write_claim(
     alloc: Global,
     key: &[u8],
     group: &[u8],
@@ -88,7 +88,7 @@ fn packed_claim(
         min_idle,
         ids,
     );
-    packed(alloc, &command, out)
+    write_command(alloc, &command, out)
 }
 
 /// Packs `XCLAIM key group consumer min-idle id ..` of the entries at these places of the bytes of a
@@ -108,11 +108,11 @@ pub extern "C" fn redis_xclaim_entries(
     ensures { IsPackedAs (IsPackingOf (claim_args key.now group.now consumer.now min_idle)
         (ids_at bytes.now entries.now) out.new) result len.new }
 {
-    packed_claim(alloc, key, group, consumer, min_idle, bytes, entries, out).tell(len)
+    write_claim(alloc, key, group, consumer, min_idle, bytes, entries, out).tell(len)
 }
 
 /// Packs XADD of the fields at these places.
-fn packed_add(
+fn write_add(
     alloc: Global,
     key: &[u8],
     id: &[u8],
@@ -127,7 +127,7 @@ fn packed_add(
         Err(unplaced) => return of_unplaced(unplaced),
     };
     match AtLeastOne::new(&fields) {
-        Some(fields) => packed(alloc, &xadd(Argument(key), Argument(id), fields), out),
+        Some(fields) => write_command(alloc, &xadd(Argument(key), Argument(id), fields), out),
         None => Packing::Nothing,
     }
 }
@@ -147,5 +147,5 @@ pub extern "C" fn redis_xadd_fields(
     ensures { IsPackedAs (IsPackingOf (add_args key.now id.now) (fields_at bytes.now fields.now) out.new)
         result len.new }
 {
-    packed_add(alloc, key, id, bytes, fields, out).tell(len)
+    write_add(alloc, key, id, bytes, fields, out).tell(len)
 }

@@ -9,24 +9,28 @@ use stream_option_parsing::{AutoClaimParts, ClaimParts, autoclaim_with, claim_wi
 use stream_options::{StreamAutoClaimOptions, StreamClaimOptions};
 
 /// The number, if it is set.
-fn if_set(is_set: bool, n: usize) -> Option<usize>
+fn keep_if_set(is_set: bool, n: usize) -> Option<usize>
     ensures { result ≡ if_set is_set n }
 {
     if is_set { Some(n) } else { None }
 }
 
 /// The settings of XAUTOCLAIM.
-pub fn autoclaim_of(settings: &AutoClaimSettings) -> StreamAutoClaimOptions
+pub fn build_autoclaim_options(settings: &AutoClaimSettings) -> StreamAutoClaimOptions
     ensures { result ≡ autoclaim_of settings.now }
 {
     autoclaim_with(AutoClaimParts {
-        count: if_set(settings.has_count, settings.count),
+        count: keep_if_set(settings.has_count, settings.count),
         justid: settings.justid,
     })
 }
 
 /// The id of LASTID, if it is set.
-fn lastid_in(alloc: Global, bytes: &[u8], settings: &ClaimSettings) -> Result<Option<String>, Unset>
+fn copy_lastid(
+    alloc: Global,
+    bytes: &[u8],
+    settings: &ClaimSettings,
+) -> Result<Option<String>, Unset>
     ensures { Makes (option_map string_bytes) result (lastid_in bytes.now settings.now) }
 {
     if settings.has_lastid {
@@ -38,18 +42,18 @@ fn lastid_in(alloc: Global, bytes: &[u8], settings: &ClaimSettings) -> Result<Op
 }
 
 /// The settings of XCLAIM.
-pub fn claim_in(
+pub fn build_claim_options(
     alloc: Global,
     bytes: &[u8],
     settings: &ClaimSettings,
 ) -> Result<StreamClaimOptions, Unset>
     ensures { Makes (λ options. options) result (claim_in bytes.now settings.now) }
 {
-    let lastid = lastid_in(alloc, bytes, settings)?;
+    let lastid = copy_lastid(alloc, bytes, settings)?;
     Ok(claim_with(ClaimParts {
-        idle: if_set(settings.has_idle, settings.idle),
-        time: if_set(settings.has_time, settings.time),
-        retry: if_set(settings.has_retry, settings.retry),
+        idle: keep_if_set(settings.has_idle, settings.idle),
+        time: keep_if_set(settings.has_time, settings.time),
+        retry: keep_if_set(settings.has_retry, settings.retry),
         force: settings.force,
         justid: settings.justid,
         lastid,

@@ -19,7 +19,12 @@ use stream_in_place::{
 };
 
 /// The room that the reply of XAUTOCLAIM needs.
-fn autoclaim_room(alloc: Global, bytes: &[u8], room: Counts, claim: &mut AutoClaimPlace) -> Outcome
+fn measure_autoclaim(
+    alloc: Global,
+    bytes: &[u8],
+    room: Counts,
+    claim: &mut AutoClaimPlace,
+) -> Outcome
     ensures is { IsRoom (AutoClaimIn claim.new) bytes.now room result }
     ensures rows { (most : ℕ) (r : SentAutoClaim) (len : ℕ) → BeginsWithAutoClaim default_limits bytes.now r len
         → TellsPlaces most (length r.claimed + length r.deleted) len (code result) (found result).len
@@ -40,7 +45,7 @@ fn autoclaim_room(alloc: Global, bytes: &[u8], room: Counts, claim: &mut AutoCla
 }
 
 /// The room that the reply of XAUTOCLAIM with JUSTID needs.
-fn justid_room(alloc: Global, bytes: &[u8], room: Counts, claim: &mut AutoClaimPlace) -> Outcome
+fn measure_justid(alloc: Global, bytes: &[u8], room: Counts, claim: &mut AutoClaimPlace) -> Outcome
     ensures is { IsRoom (JustIdIn claim.new) bytes.now room result }
     ensures rows { (most : ℕ) (r : JustId) (len : ℕ) → BeginsWithJustId default_limits bytes.now r len
         → TellsPlaces most (length r.claimed + length r.deleted) len (code result) (found result).len
@@ -60,7 +65,7 @@ fn justid_room(alloc: Global, bytes: &[u8], room: Counts, claim: &mut AutoClaimP
 }
 
 /// The places of the entries of an XAUTOCLAIM reply, in tables that have this room.
-fn autoclaim_outcome(
+fn locate_autoclaim(
     alloc: Global,
     bytes: &[u8],
     room: Counts,
@@ -80,7 +85,7 @@ fn autoclaim_outcome(
 {
     let mut tables = EntryTables::new(&mut [], entries, fields);
     match find_autoclaim(Limits::default(), bytes, &mut tables) {
-        Err(_) => autoclaim_room(alloc, bytes, room, claim),
+        Err(_) => measure_autoclaim(alloc, bytes, room, claim),
         Ok(None) => other(alloc, bytes),
         Ok(Some(place)) => {
             *claim = place;
@@ -93,7 +98,7 @@ fn autoclaim_outcome(
 }
 
 /// The places of the ids of an XAUTOCLAIM reply with JUSTID.
-fn justid_outcome(
+fn locate_justid(
     alloc: Global,
     bytes: &[u8],
     room: Counts,
@@ -111,7 +116,7 @@ fn justid_outcome(
 {
     let mut tables = EntryTables::new(&mut [], entries, &mut []);
     match find_justid(Limits::default(), bytes, &mut tables) {
-        Err(_) => justid_room(alloc, bytes, room, claim),
+        Err(_) => measure_justid(alloc, bytes, room, claim),
         Ok(None) => other(alloc, bytes),
         Ok(Some(place)) => {
             *claim = place;
@@ -146,7 +151,7 @@ pub extern "C" fn redis_find_autoclaim(
     ensures tells { TellsFinding bytes.now result }
 {
     let room = room_of(0, entries.len(), fields.len());
-    autoclaim_outcome(alloc, bytes, room, entries, fields, claim).tell(found)
+    locate_autoclaim(alloc, bytes, room, entries, fields, claim).tell(found)
 }
 
 /// Finds the places of the ids of the XAUTOCLAIM reply with JUSTID at the head of bytes, and after them the
@@ -170,5 +175,5 @@ pub extern "C" fn redis_find_justid(
     ensures tells { TellsFinding bytes.now result }
 {
     let room = room_of(0, entries.len(), 0);
-    justid_outcome(alloc, bytes, room, entries, claim).tell(found)
+    locate_justid(alloc, bytes, room, entries, claim).tell(found)
 }

@@ -19,7 +19,7 @@ pub extern "C" fn redis_key_slot(key: &[u8]) -> u32
 }
 
 /// The number of partitions, if it is not 0 and fits 16 bits.
-fn number_of(number: usize) -> Option<NonZeroU16>
+fn check_number(number: usize) -> Option<NonZeroU16>
     ensures some { 0 < number → number < 2 ^ 16 → option_map (λ n. n.value) result ≡ Some number }
     ensures none { (number ≡ 0) ⊎ (2 ^ 16 ≤ number) → result ≡ None }
 {
@@ -33,7 +33,7 @@ pub extern "C" fn redis_partition_of(record_key: &[u8], number: usize, partition
         → (result ≡ 0) × (partition.new ≡ crc16 record_key.now % number) }
     ensures none { (number ≡ 0) ⊎ (2 ^ 16 ≤ number) → (result ≡ 11) × (partition.new ≡ 0) }
 {
-    match number_of(number) {
+    match check_number(number) {
         Some(number) => {
             *partition = usize::from(partition_of(record_key, number));
             code::OK

@@ -6,7 +6,7 @@ ghost use Rattle.redis_c.specs.Commands.{reading_of, read_of, read_parts, ack_ar
 ghost use Rattle.redis_c.specs.Commands.{pending_args, trim_args};
 
 use crate::argument::Argument;
-use crate::packing::{Packing, packed};
+use crate::packing::{Packing, write_command};
 use std::alloc::{AllocError, Global};
 use stream_commands::{AtLeastOne, xack, xautoclaim_count, xpending_count, xread_options, xtrim};
 use stream_options::{StreamMaxlen, StreamReadOptions};
@@ -32,7 +32,7 @@ pub struct ReadSettings {
 }
 
 /// The settings of BLOCK, COUNT, NOACK and CLAIM.
-pub fn reading_of(settings: &ReadSettings) -> StreamReadOptions
+pub fn build_read_options(settings: &ReadSettings) -> StreamReadOptions
     ensures { result ≡ reading_of settings.now }
 {
     let mut options = StreamReadOptions::default();
@@ -46,7 +46,7 @@ pub fn reading_of(settings: &ReadSettings) -> StreamReadOptions
 }
 
 /// The settings of a read for this consumer of this group.
-pub fn options_of(
+pub fn build_group_options(
     alloc: Global,
     settings: &ReadSettings,
     group: &[u8],
@@ -54,7 +54,7 @@ pub fn options_of(
 ) -> Result<StreamReadOptions, AllocError>
     ensures { IfOk result (λ options. options ≡ read_of settings.now group.now consumer.now) }
 {
-    let mut options = reading_of(settings);
+    let mut options = build_read_options(settings);
     if settings.noack {
         options = options.noack();
     }
@@ -65,7 +65,7 @@ pub fn options_of(
 }
 
 /// Packs XREADGROUP of one stream.
-fn packed_read(
+fn write_group_read(
     alloc: Global,
     settings: &ReadSettings,
     group: &[u8],
@@ -77,8 +77,8 @@ fn packed_read(
     ensures { IsPacking (read_list (read_parts settings.now group.now consumer.now key.now id.now))
         out.new result }
 {
-    match options_of(alloc, settings, group, consumer) {
-        Ok(options) => packed(
+    match build_group_options(alloc, settings, group, consumer) {
+        Ok(options) => write_command(
             alloc,
             &xread_options(AtLeastOne::one(&(Argument(key), Argument(id))), &options),
             out,
@@ -102,7 +102,7 @@ pub extern "C" fn redis_xreadgroup(
     ensures { IsPackedAs (IsPacking (read_list
         (read_parts settings.now group.now consumer.now key.now id.now)) out.new) result len.new }
 {
-    packed_read(alloc, settings, group, consumer, key, id, out).tell(len)
+    write_group_read(alloc, settings, group, consumer, key, id, out).tell(len)
 }
 
 /// Packs `XACK key group id`.
@@ -119,7 +119,7 @@ pub extern "C" fn redis_xack(
 {
     let id = Argument(id);
     let command = xack(Argument(key), Argument(group), AtLeastOne::one(&id));
-    packed(alloc, &command, out).tell(len)
+    write_command(alloc, &command, out).tell(len)
 }
 
 /// Packs `XAUTOCLAIM key group consumer min-idle start COUNT count`.
@@ -146,7 +146,7 @@ pub extern "C" fn redis_xautoclaim(
         Argument(start),
         count,
     );
-    packed(alloc, &command, out).tell(len)
+    write_command(alloc, &command, out).tell(len)
 }
 
 /// Packs `XPENDING key group start end count`.
@@ -171,7 +171,7 @@ pub extern "C" fn redis_xpending(
         Argument(end),
         count,
     );
-    packed(alloc, &command, out).tell(len)
+    write_command(alloc, &command, out).tell(len)
 }
 
 /// Packs `XTRIM key MAXLEN = n`, or with `~` instead of `=`, if more entries may remain.
@@ -191,5 +191,5 @@ pub extern "C" fn redis_xtrim(
     } else {
         StreamMaxlen::Equals(maxlen)
     };
-    packed(alloc, &xtrim(Argument(key), most), out).tell(len)
+    write_command(alloc, &xtrim(Argument(key), most), out).tell(len)
 }

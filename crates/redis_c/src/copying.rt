@@ -139,7 +139,7 @@ pub fn put_summary(
     ensures at { IfOk result (λ x. IsSummaryAt texts.new.items x.0 x.1.items (pending_meaning reply.now)) }
 {
     match reply {
-        StreamPendingReply::Empty => Ok((nothing_pending(), Vec::new(alloc))),
+        StreamPendingReply::Empty => Ok((build_empty_summary(), Vec::new(alloc))),
         StreamPendingReply::Data(data) => {
             let start_id = put_text(texts, data.start_id.as_bytes())?;
             let end_id = put_text(texts, data.end_id.as_bytes())?;
@@ -155,7 +155,7 @@ pub fn put_summary(
 }
 
 /// The summary if no entry is pending.
-fn nothing_pending() -> SummaryRecord
+fn build_empty_summary() -> SummaryRecord
     ensures { result ≡ record { count = 0; start_id = nowhere; end_id = nowhere } }
 {
     let nowhere = Span { start: 0, len: 0 };

@@ -39,7 +39,7 @@ pub fn room_of(streams: usize, entries: usize, fields: usize) -> Counts
 }
 
 /// The room that the entries of a range need.
-fn range_room(alloc: Global, bytes: &[u8], room: Counts) -> Outcome
+fn measure_range(alloc: Global, bytes: &[u8], room: Counts) -> Outcome
     ensures is { IsRoom RangeIn bytes.now room result }
     ensures rows { (most : ℕ) (es : List SentEntry) (len : ℕ) → BeginsWithRange default_limits bytes.now es len
         → TellsPlaces most (length es) len (code result) (found result).len (found result).entries }
@@ -55,7 +55,7 @@ fn range_room(alloc: Global, bytes: &[u8], room: Counts) -> Outcome
 }
 
 /// The room that the streams of a read need.
-fn streams_room(alloc: Global, bytes: &[u8], room: Counts) -> Outcome
+fn measure_streams(alloc: Global, bytes: &[u8], room: Counts) -> Outcome
     ensures is { IsRoom StreamsIn bytes.now room result }
     ensures rows { (most : ℕ) (ss : List SentStream) (len : ℕ) → BeginsWithStreams default_limits false bytes.now ss len
         → TellsPlaces most (length ss) len (code result) (found result).len (found result).streams }
@@ -74,7 +74,7 @@ fn streams_room(alloc: Global, bytes: &[u8], room: Counts) -> Outcome
 }
 
 /// The places of the entries of a range, in tables that have this room.
-fn range_outcome(
+fn locate_range(
     alloc: Global,
     bytes: &[u8],
     room: Counts,
@@ -92,7 +92,7 @@ fn range_outcome(
 {
     let mut tables = EntryTables::new(&mut [], entries, fields);
     match find_range(Limits::default(), bytes, &mut tables) {
-        Err(_) => range_room(alloc, bytes, room),
+        Err(_) => measure_range(alloc, bytes, room),
         Ok(None) => other(alloc, bytes),
         Ok(Some(len)) => Outcome::InPlace {
             len,
@@ -102,7 +102,7 @@ fn range_outcome(
 }
 
 /// The places of the streams of a read, in tables that have this room.
-fn streams_outcome(
+fn locate_streams(
     alloc: Global,
     bytes: &[u8],
     stream_room: usize,
@@ -128,7 +128,7 @@ fn streams_outcome(
 {
     let mut tables = EntryTables::new(streams, entries, fields);
     match find_streams(Limits::default(), bytes, &mut tables) {
-        Err(_) => streams_room(alloc, bytes, room_of(stream_room, entry_room, field_room)),
+        Err(_) => measure_streams(alloc, bytes, room_of(stream_room, entry_room, field_room)),
         Ok(None) => other(alloc, bytes),
         Ok(Some(len)) => Outcome::InPlace {
             len,
@@ -156,7 +156,7 @@ pub extern "C" fn redis_find_range(
     ensures tells { TellsFinding bytes.now result }
 {
     let room = room_of(0, entries.len(), fields.len());
-    range_outcome(alloc, bytes, room, entries, fields).tell(found)
+    locate_range(alloc, bytes, room, entries, fields).tell(found)
 }
 
 /// Finds the places of the streams and their entries of the XREAD or XREADGROUP reply at the head of bytes.
@@ -184,7 +184,7 @@ pub extern "C" fn redis_find_streams(
     ensures tells { TellsFinding bytes.now result }
 {
     let (stream_room, entry_room, field_room) = (streams.len(), entries.len(), fields.len());
-    streams_outcome(
+    locate_streams(
         alloc,
         bytes,
         stream_room,

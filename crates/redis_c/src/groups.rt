@@ -4,12 +4,12 @@ ghost use Rattle.redis_c.specs.Packing.{IsPacking, IsPackedAs};
 ghost use Rattle.redis_c.specs.Commands.{create_args, setid_args, destroy_args};
 
 use crate::argument::Argument;
-use crate::packing::{Packing, packed};
+use crate::packing::{Packing, write_command};
 use std::alloc::Global;
 use stream_commands::{xgroup_create, xgroup_create_mkstream, xgroup_destroy, xgroup_setid};
 
 /// Packs XGROUP CREATE.
-fn packed_create(
+fn write_create(
     alloc: Global,
     key: &[u8],
     group: &[u8],
@@ -21,9 +21,9 @@ fn packed_create(
 {
     let (key, group, id) = (Argument(key), Argument(group), Argument(id));
     if mkstream {
-        packed(alloc, &xgroup_create_mkstream(key, group, id), out)
+        write_command(alloc, &xgroup_create_mkstream(key, group, id), out)
     } else {
-        packed(alloc, &xgroup_create(key, group, id), out)
+        write_command(alloc, &xgroup_create(key, group, id), out)
     }
 }
 
@@ -41,7 +41,7 @@ pub extern "C" fn redis_xgroup_create(
     ensures { IsPackedAs (IsPacking (create_args key.now group.now id.now mkstream) out.new)
         result len.new }
 {
-    packed_create(alloc, key, group, id, mkstream, out).tell(len)
+    write_create(alloc, key, group, id, mkstream, out).tell(len)
 }
 
 /// Packs `XGROUP SETID key group id`.
@@ -57,7 +57,7 @@ pub extern "C" fn redis_xgroup_setid(
     ensures { IsPackedAs (IsPacking (setid_args key.now group.now id.now) out.new) result len.new }
 {
     let command = xgroup_setid(Argument(key), Argument(group), Argument(id));
-    packed(alloc, &command, out).tell(len)
+    write_command(alloc, &command, out).tell(len)
 }
 
 /// Packs `XGROUP DESTROY key group`.
@@ -72,5 +72,5 @@ pub extern "C" fn redis_xgroup_destroy(
     ensures { IsPackedAs (IsPacking (destroy_args key.now group.now) out.new) result len.new }
 {
     let command = xgroup_destroy(Argument(key), Argument(group));
-    packed(alloc, &command, out).tell(len)
+    write_command(alloc, &command, out).tell(len)
 }

@@ -5,7 +5,7 @@ ghost use Rattle.redis_c.specs.Commands.{info_stream_args, info_groups_args, inf
 ghost use Rattle.redis_c.specs.Commands.{pending_summary_args};
 
 use crate::argument::Argument;
-use crate::packing::packed;
+use crate::packing::write_command;
 use std::alloc::Global;
 use stream_commands::{xinfo_consumers, xinfo_groups, xinfo_stream, xpending};
 
@@ -19,7 +19,7 @@ pub extern "C" fn redis_xinfo_stream(
 ) -> u32
     ensures { IsPackedAs (IsPacking (info_stream_args key.now) out.new) result len.new }
 {
-    packed(alloc, &xinfo_stream(Argument(key)), out).tell(len)
+    write_command(alloc, &xinfo_stream(Argument(key)), out).tell(len)
 }
 
 /// Packs `XINFO GROUPS key`.
@@ -32,7 +32,7 @@ pub extern "C" fn redis_xinfo_groups(
 ) -> u32
     ensures { IsPackedAs (IsPacking (info_groups_args key.now) out.new) result len.new }
 {
-    packed(alloc, &xinfo_groups(Argument(key)), out).tell(len)
+    write_command(alloc, &xinfo_groups(Argument(key)), out).tell(len)
 }
 
 /// Packs `XINFO CONSUMERS key group`.
@@ -47,7 +47,7 @@ pub extern "C" fn redis_xinfo_consumers(
     ensures { IsPackedAs (IsPacking (info_consumers_args key.now group.now) out.new) result len.new }
 {
     let command = xinfo_consumers(Argument(key), Argument(group));
-    packed(alloc, &command, out).tell(len)
+    write_command(alloc, &command, out).tell(len)
 }
 
 /// Packs `XPENDING key group`: the number of entries pending for the group, and their consumers.
@@ -62,5 +62,5 @@ pub extern "C" fn redis_xpending_summary(
     ensures { IsPackedAs (IsPacking (pending_summary_args key.now group.now) out.new) result len.new }
 {
     let command = xpending(Argument(key), Argument(group));
-    packed(alloc, &command, out).tell(len)
+    write_command(alloc, &command, out).tell(len)
 }

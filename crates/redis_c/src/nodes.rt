@@ -10,7 +10,7 @@ use redis_wire::{Found, Limits, Node, WireError, find_nodes};
 use std::alloc::Global;
 
 /// The status code of the outcome.
-fn nodes_code(found: &Result<Found, WireError>) -> u32
+fn get_code(found: &Result<Found, WireError>) -> u32
     ensures { result ≡ nodes_code found.now }
 {
     match found {
@@ -23,7 +23,7 @@ fn nodes_code(found: &Result<Found, WireError>) -> u32
 }
 
 /// The number of bytes of the reply, and 0 if there is none.
-fn nodes_len(found: &Result<Found, WireError>) -> usize
+fn count_bytes(found: &Result<Found, WireError>) -> usize
     ensures { result ≡ nodes_len found.now }
 {
     match found {
@@ -33,7 +33,7 @@ fn nodes_len(found: &Result<Found, WireError>) -> usize
 }
 
 /// The number of nodes; or an upper bound, if the table has no room for them.
-fn nodes_count(found: &Result<Found, WireError>) -> usize
+fn count_nodes(found: &Result<Found, WireError>) -> usize
     ensures { result ≡ nodes_count found.now }
 {
     match found {
@@ -44,7 +44,7 @@ fn nodes_count(found: &Result<Found, WireError>) -> usize
 }
 
 /// Parses the values at the head of bytes into this table.
-fn nodes_found(alloc: Global, bytes: &[u8], nodes: &mut [Node]) -> Result<Found, WireError>
+fn parse_nodes(alloc: Global, bytes: &[u8], nodes: &mut [Node]) -> Result<Found, WireError>
     ensures is { Finds default_limits bytes.now nodes.new result }
     ensures few { HasTooFew (length nodes.new) result }
 {
@@ -75,8 +75,8 @@ pub extern "C" fn redis_find_nodes(
     ensures are { AreNodesTold bytes.now nodes.new result len.new count.new }
     ensures tells { TellsNodes bytes.now result len.new }
 {
-    let found = nodes_found(alloc, bytes, nodes);
-    *len = nodes_len(&found);
-    *count = nodes_count(&found);
-    nodes_code(&found)
+    let found = parse_nodes(alloc, bytes, nodes);
+    *len = count_bytes(&found);
+    *count = count_nodes(&found);
+    get_code(&found)
 }

@@ -9,17 +9,17 @@ ghost use Rattle.redis_c.specs.Commands.{add_options_args, trim_options_args, cl
 ghost use Rattle.redis_c.specs.Commands.{autoclaim_options_args, read_streams_args, read_group_args};
 ghost use Rattle.redis_c.specs.Commands.{pending_options_args};
 
-use crate::adding::add_in;
+use crate::adding::build_add_options;
 use crate::argument::Argument;
 use crate::at_places::of_unplaced;
-use crate::claiming::{autoclaim_of, claim_in};
-use crate::commands::{ReadSettings, options_of, reading_of};
-use crate::packing::{Packing, packed};
+use crate::claiming::{build_autoclaim_options, build_claim_options};
+use crate::commands::{ReadSettings, build_group_options, build_read_options};
+use crate::packing::{Packing, write_command};
 use crate::placed::{fields_at, ids_at};
 use crate::settings::{
     AddSettings, AutoClaimSettings, ClaimSettings, PendingSettings, TrimSettings, Unset,
 };
-use crate::trimming::trim_in;
+use crate::trimming::build_trim_options;
 use std::alloc::Global;
 use stream_commands::{
     AtLeastOne, xadd_options, xautoclaim_justid, xautoclaim_options, xclaim_justid, xclaim_options,
@@ -41,7 +41,7 @@ fn of_unset(unset: Unset) -> Packing
 }
 
 /// Packs XADD of the fields at these places with these options.
-fn packed_fields(
+fn write_fields(
     alloc: Global,
     key: &[u8],
     id: &[u8],
@@ -58,7 +58,7 @@ fn packed_fields(
         Err(unplaced) => return of_unplaced(unplaced),
     };
     match AtLeastOne::new(&fields) {
-        Some(fields) => packed(
+        Some(fields) => write_command(
             alloc,
             &xadd_options(Argument(key), Argument(id), fields, options),
             out,
@@ -68,7 +68,7 @@ fn packed_fields(
 }
 
 /// Packs XADD with options.
-fn packed_add(
+fn write_add(
     alloc: Global,
     key: &[u8],
     id: &[u8],
@@ -80,8 +80,8 @@ fn packed_add(
     ensures { IsPackingBy (add_options_args key.now id.now) (add_in bytes.now settings.now)
         (fields_at bytes.now fields.now) out.new result }
 {
-    match add_in(alloc, bytes, settings) {
-        Ok(options) => packed_fields(alloc, key, id, &options, bytes, fields, out),
+    match build_add_options(alloc, bytes, settings) {
+        Ok(options) => write_fields(alloc, key, id, &options, bytes, fields, out),
         Err(unset) => of_unset(unset),
     }
 }
@@ -102,11 +102,11 @@ pub extern "C" fn redis_xadd_options(
     ensures { IsPackedAs (IsPackingBy (add_options_args key.now id.now) (add_in bytes.now settings.now)
         (fields_at bytes.now fields.now) out.new) result len.new }
 {
-    packed_add(alloc, key, id, settings, bytes, fields, out).tell(len)
+    write_add(alloc, key, id, settings, bytes, fields, out).tell(len)
 }
 
 /// Packs XTRIM with options.
-fn packed_trim(
+fn write_trim(
     alloc: Global,
     key: &[u8],
     settings: &TrimSettings,
@@ -115,8 +115,8 @@ fn packed_trim(
 ) -> Packing
     ensures { IsPackingWith (trim_options_args key.now) (trim_in bytes.now settings.now) out.new result }
 {
-    match trim_in(alloc, bytes, settings) {
-        Ok(options) => packed(alloc, &xtrim_options(Argument(key), &options), out),
+    match build_trim_options(alloc, bytes, settings) {
+        Ok(options) => write_command(alloc, &xtrim_options(Argument(key), &options), out),
         Err(unset) => of_unset(unset),
     }
 }
@@ -135,11 +135,11 @@ pub extern "C" fn redis_xtrim_options(
     ensures { IsPackedAs (IsPackingWith (trim_options_args key.now) (trim_in bytes.now settings.now) out.new)
         result len.new }
 {
-    packed_trim(alloc, key, settings, bytes, out).tell(len)
+    write_trim(alloc, key, settings, bytes, out).tell(len)
 }
 
 /// Packs XCLAIM of these ids with these options.
-fn packed_claim_of<'a>(
+fn write_claim_of_ids<'a>(
     alloc: Global,
     key: &[u8],
     group: &[u8],
@@ -155,16 +155,16 @@ fn packed_claim_of<'a>(
     let (key, group, consumer) = (Argument(key), Argument(group), Argument(consumer));
     if options.has_justid() {
         let command = xclaim_justid(key, group, consumer, min_idle, ids, options);
-        return packed(alloc, &command, out);
+        return write_command(alloc, &command, out);
     }
     match xclaim_options(key, group, consumer, min_idle, ids, &options) {
-        Ok(command) => packed(alloc, &command, out),
+        Ok(command) => write_command(alloc, &command, out),
         Err(_) => Packing::Memory,
     }
 }
 
 /// Packs XCLAIM of the entries at these places with options.
-fn packed_claim(
+fn write_claim(
     alloc: Global,
     key: &[u8],
     group: &[u8],
@@ -178,7 +178,7 @@ fn packed_claim(
     ensures { IsPackingBy (claim_options_args key.now group.now consumer.now min_idle)
         (claim_in bytes.now settings.now) (ids_at bytes.now entries.now) out.new result }
 {
-    let options = match claim_in(alloc, bytes, settings) {
+    let options = match build_claim_options(alloc, bytes, settings) {
         Ok(options) => options,
         Err(unset) => return of_unset(unset),
     };
@@ -187,7 +187,7 @@ fn packed_claim(
         Err(unplaced) => return of_unplaced(unplaced),
     };
     match AtLeastOne::new(&ids) {
-        Some(ids) => packed_claim_of(alloc, key, group, consumer, min_idle, options, ids, out),
+        Some(ids) => write_claim_of_ids(alloc, key, group, consumer, min_idle, options, ids, out),
         None => Packing::Nothing,
     }
 }
@@ -210,14 +210,14 @@ pub extern "C" fn redis_xclaim_options(
     ensures { IsPackedAs (IsPackingBy (claim_options_args key.now group.now consumer.now min_idle)
         (claim_in bytes.now settings.now) (ids_at bytes.now entries.now) out.new) result len.new }
 {
-    packed_claim(
+    write_claim(
         alloc, key, group, consumer, min_idle, settings, bytes, entries, out,
     )
     .tell(len)
 }
 
 /// Packs XAUTOCLAIM with options.
-fn packed_autoclaim(
+fn write_autoclaim(
     alloc: Global,
     key: &[u8],
     group: &[u8],
@@ -230,14 +230,14 @@ fn packed_autoclaim(
     ensures { IsPacking (autoclaim_options_args key.now group.now consumer.now min_idle start.now settings.now)
         out.new result }
 {
-    let options = autoclaim_of(settings);
+    let options = build_autoclaim_options(settings);
     let (key, group, consumer) = (Argument(key), Argument(group), Argument(consumer));
     if options.has_justid() {
         let command = xautoclaim_justid(key, group, consumer, min_idle, Argument(start), options);
-        return packed(alloc, &command, out);
+        return write_command(alloc, &command, out);
     }
     match xautoclaim_options(key, group, consumer, min_idle, Argument(start), &options) {
-        Ok(command) => packed(alloc, &command, out),
+        Ok(command) => write_command(alloc, &command, out),
         Err(_) => Packing::Memory,
     }
 }
@@ -259,11 +259,11 @@ pub extern "C" fn redis_xautoclaim_options(
         (autoclaim_options_args key.now group.now consumer.now min_idle start.now settings.now) out.new)
         result len.new }
 {
-    packed_autoclaim(alloc, key, group, consumer, min_idle, start, settings, out).tell(len)
+    write_autoclaim(alloc, key, group, consumer, min_idle, start, settings, out).tell(len)
 }
 
 /// Packs a read of the streams at these places with these options.
-fn packed_streams(
+fn write_streams_read(
     alloc: Global,
     options: &StreamReadOptions,
     bytes: &[u8],
@@ -278,7 +278,7 @@ fn packed_streams(
         Err(unplaced) => return of_unplaced(unplaced),
     };
     match AtLeastOne::new(&streams) {
-        Some(streams) => packed(alloc, &xread_options(streams, options), out),
+        Some(streams) => write_command(alloc, &xread_options(streams, options), out),
         None => Packing::Nothing,
     }
 }
@@ -297,11 +297,11 @@ pub extern "C" fn redis_xread_streams(
     ensures { IsPackedAs (IsPackingOf (read_streams_args settings.now) (fields_at bytes.now streams.now)
         out.new) result len.new }
 {
-    packed_streams(alloc, &reading_of(settings), bytes, streams, out).tell(len)
+    write_streams_read(alloc, &build_read_options(settings), bytes, streams, out).tell(len)
 }
 
 /// Packs XREADGROUP of the streams at these places.
-fn packed_group(
+fn write_group_streams_read(
     alloc: Global,
     settings: &ReadSettings,
     group: &[u8],
@@ -313,8 +313,8 @@ fn packed_group(
     ensures { IsPackingOf (read_group_args settings.now group.now consumer.now)
         (fields_at bytes.now streams.now) out.new result }
 {
-    match options_of(alloc, settings, group, consumer) {
-        Ok(options) => packed_streams(alloc, &options, bytes, streams, out),
+    match build_group_options(alloc, settings, group, consumer) {
+        Ok(options) => write_streams_read(alloc, &options, bytes, streams, out),
         Err(_) => Packing::Memory,
     }
 }
@@ -335,11 +335,11 @@ pub extern "C" fn redis_xreadgroup_streams(
     ensures { IsPackedAs (IsPackingOf (read_group_args settings.now group.now consumer.now)
         (fields_at bytes.now streams.now) out.new) result len.new }
 {
-    packed_group(alloc, settings, group, consumer, bytes, streams, out).tell(len)
+    write_group_streams_read(alloc, settings, group, consumer, bytes, streams, out).tell(len)
 }
 
 /// Packs XPENDING of one consumer or of all.
-fn packed_pending(
+fn write_pending(
     alloc: Global,
     key: &[u8],
     group: &[u8],
@@ -357,15 +357,15 @@ fn packed_pending(
     let (start, end, idle) = (Argument(start), Argument(end), settings.idle);
     if settings.has_idle && settings.has_consumer {
         let command = xpending_idle_consumer_count(key, group, idle, start, end, count, consumer);
-        packed(alloc, &command, out)
+        write_command(alloc, &command, out)
     } else if settings.has_idle {
         let command = xpending_idle_count(key, group, idle, start, end, count);
-        packed(alloc, &command, out)
+        write_command(alloc, &command, out)
     } else if settings.has_consumer {
         let command = xpending_consumer_count(key, group, start, end, count, consumer);
-        packed(alloc, &command, out)
+        write_command(alloc, &command, out)
     } else {
-        packed(alloc, &xpending_count(key, group, start, end, count), out)
+        write_command(alloc, &xpending_count(key, group, start, end, count), out)
     }
 }
 
@@ -387,7 +387,7 @@ pub extern "C" fn redis_xpending_options(
         (pending_options_args key.now group.now settings.now start.now end.now count consumer.now) out.new)
         result len.new }
 {
-    packed_pending(
+    write_pending(
         alloc, key, group, settings, start, end, count, consumer, out,
     )
     .tell(len)

@@ -11,7 +11,7 @@ use redis_wire::{Decoded, Limits, Reply, WireError, decode};
 use std::alloc::Global;
 
 /// The place of the text of an error in the bytes of a reply of this length: two bytes, CR and LF, follow it.
-fn place_of(bytes: &[u8], len: usize, text: &[u8]) -> Option<Span>
+fn find_error_text(bytes: &[u8], len: usize, text: &[u8]) -> Option<Span>
     ensures is { IfSome result (λ span. text_in bytes.now span ≡ text.now) }
     ensures within { IfSome result (λ span. IsSpan bytes.now span) }
     ensures found { result ≡ None → len ≤ length bytes.now → (front : List ℕ)
@@ -33,14 +33,14 @@ pub fn error_at(bytes: &[u8], len: usize, text: &[u8]) -> Outcome
     requires { IsAnswered bytes.now len (refused text.now) }
     ensures { IsError bytes.now result }
 {
-    match place_of(bytes, len, text) {
+    match find_error_text(bytes, len, text) {
         Some(text) => Outcome::ServerError { len, text },
         None => Outcome::OtherShape { len },
     }
 }
 
 /// The outcome for a decoded reply.
-fn kind_of(bytes: &[u8], len: usize, reply: Reply) -> Outcome
+fn classify_reply(bytes: &[u8], len: usize, reply: Reply) -> Outcome
     requires { IsAnswered bytes.now len (answer reply) }
     ensures { IsOther bytes.now result }
 {
@@ -55,7 +55,7 @@ pub fn other(alloc: Global, bytes: &[u8]) -> Outcome
     ensures { IsOther bytes.now result }
 {
     match decode(alloc, bytes, Limits::default()) {
-        Ok(Decoded::Complete { reply, len }) => kind_of(bytes, len, reply),
+        Ok(Decoded::Complete { reply, len }) => classify_reply(bytes, len, reply),
         Ok(Decoded::Incomplete) => Outcome::Incomplete,
         Err(WireError::Memory) => Outcome::Memory,
         Err(WireError::Fault(fault)) => Outcome::Fault(fault),

@@ -96,11 +96,13 @@ impl Outcome {
         };
         let nowhere = Span { start: 0, len: 0 };
         match self {
-            Outcome::InPlace { len, counts } => found_of(len, counts, nowhere),
-            Outcome::Room { len, counts } => found_of(len, counts, nowhere),
-            Outcome::ServerError { len, text } => found_of(len, none, text),
-            Outcome::OtherShape { len } => found_of(len, none, nowhere),
-            Outcome::Incomplete | Outcome::Memory | Outcome::Fault(_) => found_of(0, none, nowhere),
+            Outcome::InPlace { len, counts } => build_found(len, counts, nowhere),
+            Outcome::Room { len, counts } => build_found(len, counts, nowhere),
+            Outcome::ServerError { len, text } => build_found(len, none, text),
+            Outcome::OtherShape { len } => build_found(len, none, nowhere),
+            Outcome::Incomplete | Outcome::Memory | Outcome::Fault(_) => build_found(
+                0, none, nowhere,
+            ),
         }
     }
 
@@ -132,7 +134,7 @@ pub fn wanted(len: usize, counts: Counts, room: Counts) -> Outcome
 }
 
 /// A length, counts and a place, for C.
-fn found_of(len: usize, counts: Counts, error: Span) -> Found
+fn build_found(len: usize, counts: Counts, error: Span) -> Found
     ensures { result ≡ record {
       len = len;
       streams = counts.streams;

@@ -73,7 +73,7 @@ impl Packing {
 }
 
 /// Copies the bytes to the start of the buffer, if they fit.
-pub fn copied(bytes: &[u8], out: &mut [u8]) -> Packing
+pub fn copy_bytes(bytes: &[u8], out: &mut [u8]) -> Packing
     ensures { IsWritten bytes.now out.new result }
 {
     if bytes.len() > out.len() {
@@ -100,11 +100,11 @@ pub fn copy_both(first: &[u8], second: &[u8], out: &mut [u8]) -> Packing
 }
 
 /// Packs a command into the start of the buffer.
-pub fn packed<T: ToRedisArgs>(alloc: Global, command: &T, out: &mut [u8]) -> Packing
+pub fn write_command<T: ToRedisArgs>(alloc: Global, command: &T, out: &mut [u8]) -> Packing
     ensures { IsPacking (T.args command.now) out.new result }
 {
     match pack_command(alloc, command) {
-        Ok(bytes) => copied(&bytes, out),
+        Ok(bytes) => copy_bytes(&bytes, out),
         Err(PackError::Full) => Packing::TooLarge,
         // Each command of this crate has its name, so it has arguments.
         Err(PackError::Memory | PackError::NoArguments) => Packing::Memory,

@@ -30,24 +30,24 @@ use stream_options::{
 };
 
 /// The empty place, for no text.
-fn nowhere() -> Span
+fn build_empty_place() -> Span
     ensures { result ≡ nowhere }
 {
     Span { start: 0, len: 0 }
 }
 
 /// The place at index `n`.
-fn place_after(places: &[Span], n: usize) -> Span
+fn get_place(places: &[Span], n: usize) -> Span
     ensures { result ≡ first_place (drop n places.now) }
 {
-    match after(places, n) {
+    match skip_places(places, n) {
         [place, ..] => *place,
-        [] => nowhere(),
+        [] => build_empty_place(),
     }
 }
 
 /// The places from index `n` on.
-fn after(places: &[Span], n: usize) -> &[Span]
+fn skip_places(places: &[Span], n: usize) -> &[Span]
     ensures { result.now ≡ drop n places.now }
 {
     match places.get(n..) {
@@ -57,18 +57,22 @@ fn after(places: &[Span], n: usize) -> &[Span]
 }
 
 /// The places after a word, if it is present.
-fn after_flag(places: &[Span], is_there: bool) -> &[Span]
+fn skip_flag(places: &[Span], is_there: bool) -> &[Span]
     ensures { (word : List ℕ) → Skips (flag word is_there) places.now result.now }
 {
-    if is_there { after(places, 1) } else { places }
+    if is_there {
+        skip_places(places, 1)
+    } else {
+        places
+    }
 }
 
 /// The places after a word and its number, if they are present.
-fn after_number(places: &[Span], number: Option<usize>) -> &[Span]
+fn skip_number(places: &[Span], number: Option<usize>) -> &[Span]
     ensures { (word : List ℕ) → Skips (clause (word_number word) number) places.now result.now }
 {
     match number {
-        Some(_) => after(places, 2),
+        Some(_) => skip_places(places, 2),
         None => places,
     }
 }
@@ -85,7 +89,7 @@ fn set_number(number: Option<usize>) -> (bool, usize)
 }
 
 /// What happens to deleted entries in the pending lists of groups, as a number.
-fn policy_number(policy: &Option<StreamDeletionPolicy>) -> u32
+fn get_policy_number(policy: &Option<StreamDeletionPolicy>) -> u32
     ensures { policy_by result ≡ Some (option_map policy_of policy.now) }
 {
     match policy {
@@ -107,7 +111,7 @@ fn is_approximate(mode: &StreamTrimmingMode) -> bool
 }
 
 /// The settings without a bound, a limit or a policy.
-fn untrimmed() -> TrimSettings
+fn build_untrimmed() -> TrimSettings
     ensures bound { result.bound ≡ 0 }
     ensures plain { IsPlainTrim result }
 {
@@ -117,19 +121,19 @@ fn untrimmed() -> TrimSettings
         approximate: false,
         has_limit: false,
         maxlen: 0,
-        minid: nowhere(),
+        minid: build_empty_place(),
         limit: 0,
     }
 }
 
 /// How a stream is trimmed, without the policy. The places are those of the strategy and what follows.
-fn strategy_settings(strategy: &StreamTrimStrategy, places: &[Span]) -> TrimSettings
+fn build_strategy_settings(strategy: &StreamTrimStrategy, places: &[Span]) -> TrimSettings
     ensures bound { result.bound ≢ 0 }
     ensures plain { IsPlainTrim result }
     ensures is { Tells StrategyFits strategy_sentence (λ bytes. strategy_in bytes result)
         (strategy_of strategy.now) places.now }
 {
-    let mut settings = untrimmed();
+    let mut settings = build_untrimmed();
     match strategy {
         StreamTrimStrategy::MaxLen(mode, maxlen, limit) => {
             settings.bound = 1;
@@ -140,7 +144,7 @@ fn strategy_settings(strategy: &StreamTrimStrategy, places: &[Span]) -> TrimSett
         StreamTrimStrategy::MinId(mode, _, limit) => {
             settings.bound = 2;
             settings.approximate = is_approximate(mode);
-            settings.minid = place_after(places, 2);
+            settings.minid = get_place(places, 2);
             (settings.has_limit, settings.limit) = set_number(*limit);
         }
     }
@@ -148,30 +152,33 @@ fn strategy_settings(strategy: &StreamTrimStrategy, places: &[Span]) -> TrimSett
 }
 
 /// How a stream is trimmed, without the policy, if it is trimmed.
-fn any_strategy_settings(strategy: &Option<StreamTrimStrategy>, places: &[Span]) -> TrimSettings
+fn build_any_strategy_settings(
+    strategy: &Option<StreamTrimStrategy>,
+    places: &[Span],
+) -> TrimSettings
     ensures plain { IsPlainTrim result }
     ensures is { Tells (λ x. IfSome x StrategyFits) (clause strategy_sentence)
         (λ bytes. any_strategy_in bytes result) (option_map strategy_of strategy.now) places.now }
 {
     match strategy {
-        Some(strategy) => strategy_settings(strategy, places),
-        None => untrimmed(),
+        Some(strategy) => build_strategy_settings(strategy, places),
+        None => build_untrimmed(),
     }
 }
 
 /// How a stream is trimmed, by the places of the arguments.
-pub fn trim_settings(parts: &TrimParts, places: &[Span]) -> TrimSettings
+pub fn build_trim_settings(parts: &TrimParts, places: &[Span]) -> TrimSettings
     ensures plain { IsPlainTrim result }
     ensures is { Tells TrimFits trim_sentence (λ bytes. trim_in bytes result)
         (told.trim_of parts.now) places.now }
 {
-    let mut settings = strategy_settings(&parts.strategy, places);
-    settings.policy = policy_number(&parts.policy);
+    let mut settings = build_strategy_settings(&parts.strategy, places);
+    settings.policy = get_policy_number(&parts.policy);
     settings
 }
 
 /// How the server detects duplicates, and the places of the texts for it.
-fn way_settings(mode: &StreamIdempotencyMode, places: &[Span]) -> (u32, Span, Span)
+fn build_idempotency_settings(mode: &StreamIdempotencyMode, places: &[Span]) -> (u32, Span, Span)
     ensures producer { result.0 ≢ 0 }
     ensures idempotent_id { result.0 ≢ 1 → result.2 ≡ nowhere }
     ensures is { Tells (λ x. IfSome x IdempotencyFits) (clause idempotency_sentence)
@@ -179,15 +186,16 @@ fn way_settings(mode: &StreamIdempotencyMode, places: &[Span]) -> (u32, Span, Sp
         places.now }
 {
     match mode {
-        StreamIdempotencyMode::Manual { .. } => {
-            (1, place_after(places, 1), place_after(places, 2))
-        }
-        StreamIdempotencyMode::Automatic { .. } => (2, place_after(places, 1), nowhere()),
+        StreamIdempotencyMode::Manual { .. } => (1, get_place(places, 1), get_place(places, 2)),
+        StreamIdempotencyMode::Automatic { .. } => (2, get_place(places, 1), build_empty_place()),
     }
 }
 
 /// The same, if the server detects duplicates.
-fn idempotency_settings(mode: &Option<StreamIdempotencyMode>, places: &[Span]) -> (u32, Span, Span)
+fn build_any_idempotency_settings(
+    mode: &Option<StreamIdempotencyMode>,
+    places: &[Span],
+) -> (u32, Span, Span)
     ensures producer { result.0 ≡ 0 → result.1 ≡ nowhere }
     ensures idempotent_id { result.0 ≢ 1 → result.2 ≡ nowhere }
     ensures is { Tells (λ x. IfSome x IdempotencyFits) (clause idempotency_sentence)
@@ -195,43 +203,46 @@ fn idempotency_settings(mode: &Option<StreamIdempotencyMode>, places: &[Span]) -
         places.now }
 {
     match mode {
-        Some(mode) => way_settings(mode, places),
-        None => (0, nowhere(), nowhere()),
+        Some(mode) => build_idempotency_settings(mode, places),
+        None => (0, build_empty_place(), build_empty_place()),
     }
 }
 
 /// The places after the clause for duplicates, if there is one.
-fn after_idempotency<'a>(places: &'a [Span], mode: &Option<StreamIdempotencyMode>) -> &'a [Span]
+fn skip_idempotency<'a>(places: &'a [Span], mode: &Option<StreamIdempotencyMode>) -> &'a [Span]
     ensures { Skips (clause idempotency_sentence (option_map idempotency_of mode.now)) places.now result.now }
 {
     match mode {
         None => places,
-        Some(StreamIdempotencyMode::Manual { .. }) => after(places, 3),
-        Some(StreamIdempotencyMode::Automatic { .. }) => after(places, 2),
+        Some(StreamIdempotencyMode::Manual { .. }) => skip_places(places, 3),
+        Some(StreamIdempotencyMode::Automatic { .. }) => skip_places(places, 2),
     }
 }
 
 /// The places after a policy, if there is one.
-fn after_policy<'a>(places: &'a [Span], policy: &Option<StreamDeletionPolicy>) -> &'a [Span]
+fn skip_policy<'a>(places: &'a [Span], policy: &Option<StreamDeletionPolicy>) -> &'a [Span]
     ensures { Skips (clause policy_sentence (option_map policy_of policy.now)) places.now result.now }
 {
     match policy {
         None => places,
-        Some(_) => after(places, 1),
+        Some(_) => skip_places(places, 1),
     }
 }
 
 /// How an entry is added, by the places of the arguments.
-pub fn add_settings(parts: &AddParts, places: &[Span]) -> AddSettings
+pub fn build_add_settings(parts: &AddParts, places: &[Span]) -> AddSettings
     ensures plain { IsPlainAdd result }
     ensures is { Tells AddFits add_sentence (λ bytes. add_in bytes result)
         (told.add_of parts.now) places.now }
 {
-    let rest = after_policy(after_flag(places, parts.nomkstream), &parts.policy);
-    let (idempotency, producer, idempotent_id) = idempotency_settings(&parts.idempotency, rest);
-    let rest = after_idempotency(rest, &parts.idempotency);
-    let mut trim = any_strategy_settings(&parts.strategy, rest);
-    trim.policy = policy_number(&parts.policy);
+    let rest = skip_policy(skip_flag(places, parts.nomkstream), &parts.policy);
+    let (idempotency, producer, idempotent_id) = build_any_idempotency_settings(
+        &parts.idempotency,
+        rest,
+    );
+    let rest = skip_idempotency(rest, &parts.idempotency);
+    let mut trim = build_any_strategy_settings(&parts.strategy, rest);
+    trim.policy = get_policy_number(&parts.policy);
     AddSettings {
         nomkstream: parts.nomkstream,
         idempotency,
@@ -242,27 +253,27 @@ pub fn add_settings(parts: &AddParts, places: &[Span]) -> AddSettings
 }
 
 /// Whether LASTID is set, and the place of its id. The places are those of the clause and what follows.
-fn lastid_settings(lastid: &Option<String>, places: &[Span]) -> (bool, Span)
+fn build_lastid_settings(lastid: &Option<String>, places: &[Span]) -> (bool, Span)
     ensures plain { IsNowhereUnless result.0 result.1 }
     ensures is { Tells (λ x. IfSome x IsUtf8) (clause (word_text (codes "LASTID")))
         (λ bytes. lastid_by bytes result.0 result.1) (option_map string_bytes lastid.now) places.now }
 {
     match lastid {
-        Some(_) => (true, place_after(places, 1)),
-        None => (false, nowhere()),
+        Some(_) => (true, get_place(places, 1)),
+        None => (false, build_empty_place()),
     }
 }
 
 /// How entries are claimed by their ids, by the places of the arguments.
-pub fn claim_settings(parts: &ClaimParts, places: &[Span]) -> ClaimSettings
+pub fn build_claim_settings(parts: &ClaimParts, places: &[Span]) -> ClaimSettings
     ensures plain { IsPlainClaim result }
     ensures is { Tells ClaimFits claim_sentence (λ bytes. claim_in bytes result)
         (told.claim_of parts.now) places.now }
 {
-    let rest = after_number(after_number(places, parts.idle), parts.time);
-    let rest = after_flag(after_number(rest, parts.retry), parts.force);
-    let rest = after_flag(rest, parts.justid);
-    let (has_lastid, lastid) = lastid_settings(&parts.lastid, rest);
+    let rest = skip_number(skip_number(places, parts.idle), parts.time);
+    let rest = skip_flag(skip_number(rest, parts.retry), parts.force);
+    let rest = skip_flag(rest, parts.justid);
+    let (has_lastid, lastid) = build_lastid_settings(&parts.lastid, rest);
     let (has_idle, idle) = set_number(parts.idle);
     let (has_time, time) = set_number(parts.time);
     let (has_retry, retry) = set_number(parts.retry);
@@ -281,7 +292,7 @@ pub fn claim_settings(parts: &ClaimParts, places: &[Span]) -> ClaimSettings
 }
 
 /// How idle entries are claimed, whatever their ids.
-pub fn autoclaim_settings(parts: AutoClaimParts) -> AutoClaimSettings
+pub fn build_autoclaim_settings(parts: AutoClaimParts) -> AutoClaimSettings
     ensures plain { IsPlainAutoClaim result }
     ensures is { autoclaim_of result ≡ told.autoclaim_of parts }
 {
@@ -294,7 +305,7 @@ pub fn autoclaim_settings(parts: AutoClaimParts) -> AutoClaimSettings
 }
 
 /// The settings of a read after the group.
-pub fn read_settings(parts: ReadParts<'_>) -> ReadSettings
+pub fn build_read_settings(parts: ReadParts<'_>) -> ReadSettings
     ensures plain { IsPlainRead result }
     ensures is { asked_by result ≡ asked_of parts.entry }
 {
@@ -313,7 +324,7 @@ pub fn read_settings(parts: ReadParts<'_>) -> ReadSettings
 }
 
 /// The group and the consumer, if they are given, by the places of the arguments.
-pub fn group_place(names: Option<GroupNames<'_>>, places: &[Span]) -> GroupPlace
+pub fn build_group_place(names: Option<GroupNames<'_>>, places: &[Span]) -> GroupPlace
     ensures plain { IsPlainGroup result }
     ensures named { result.has_group ≡ is_some names.entry }
     ensures is { Tells Any (clause group_sentence) (λ bytes. group_in bytes result)
@@ -322,13 +333,13 @@ pub fn group_place(names: Option<GroupNames<'_>>, places: &[Span]) -> GroupPlace
     match names {
         Some(_) => GroupPlace {
             has_group: true,
-            group: place_after(places, 1),
-            consumer: place_after(places, 2),
+            group: get_place(places, 1),
+            consumer: get_place(places, 2),
         },
         None => GroupPlace {
             has_group: false,
-            group: nowhere(),
-            consumer: nowhere(),
+            group: build_empty_place(),
+            consumer: build_empty_place(),
         },
     }
 }

@@ -7,7 +7,7 @@ ghost use Rattle.redis_c.specs.Commands.{revrange_count_args, del_args};
 
 use crate::argument::Argument;
 use crate::at_places::of_unplaced;
-use crate::packing::{Packing, packed};
+use crate::packing::{Packing, write_command};
 use crate::placed::ids_at;
 use std::alloc::Global;
 use stream_commands::{AtLeastOne, xdel, xlen, xrange, xrange_count, xrevrange, xrevrange_count};
@@ -18,7 +18,7 @@ use stream_in_place::EntryPlace;
 pub extern "C" fn redis_xlen(alloc: Global, key: &[u8], out: &mut [u8], len: &mut usize) -> u32
     ensures { IsPackedAs (IsPacking (len_args key.now) out.new) result len.new }
 {
-    packed(alloc, &xlen(Argument(key)), out).tell(len)
+    write_command(alloc, &xlen(Argument(key)), out).tell(len)
 }
 
 /// Packs `XRANGE key start end`: all entries from `start` to `end`, both included, in ascending order.
@@ -33,7 +33,7 @@ pub extern "C" fn redis_xrange(
 ) -> u32
     ensures { IsPackedAs (IsPacking (range_args key.now start.now end.now) out.new) result len.new }
 {
-    packed(
+    write_command(
         alloc,
         &xrange(Argument(key), Argument(start), Argument(end)),
         out,
@@ -55,7 +55,7 @@ pub extern "C" fn redis_xrange_count(
     ensures { IsPackedAs (IsPacking (range_count_args key.now start.now end.now count) out.new) result len.new }
 {
     let command = xrange_count(Argument(key), Argument(start), Argument(end), count);
-    packed(alloc, &command, out).tell(len)
+    write_command(alloc, &command, out).tell(len)
 }
 
 /// Packs `XREVRANGE key end start`: all entries from `end` back to `start`, both included, in descending
@@ -71,7 +71,7 @@ pub extern "C" fn redis_xrevrange(
 ) -> u32
     ensures { IsPackedAs (IsPacking (revrange_args key.now end.now start.now) out.new) result len.new }
 {
-    packed(
+    write_command(
         alloc,
         &xrevrange(Argument(key), Argument(end), Argument(start)),
         out,
@@ -93,7 +93,7 @@ pub extern "C" fn redis_xrevrange_count(
     ensures { IsPackedAs (IsPacking (revrange_count_args key.now end.now start.now count) out.new) result len.new }
 {
     let command = xrevrange_count(Argument(key), Argument(end), Argument(start), count);
-    packed(alloc, &command, out).tell(len)
+    write_command(alloc, &command, out).tell(len)
 }
 
 /// Packs `XDEL key id`.
@@ -108,11 +108,11 @@ pub extern "C" fn redis_xdel(
     ensures { IsPackedAs (IsPacking (del_args key.now (id.now ∷ [])) out.new) result len.new }
 {
     let id = Argument(id);
-    packed(alloc, &xdel(Argument(key), AtLeastOne::one(&id)), out).tell(len)
+    write_command(alloc, &xdel(Argument(key), AtLeastOne::one(&id)), out).tell(len)
 }
 
 /// Packs XDEL of the entries at these places.
-fn packed_del(
+fn write_del(
     alloc: Global,
     key: &[u8],
     bytes: &[u8],
@@ -126,7 +126,7 @@ fn packed_del(
         Err(unplaced) => return of_unplaced(unplaced),
     };
     match AtLeastOne::new(&ids) {
-        Some(ids) => packed(alloc, &xdel(Argument(key), ids), out),
+        Some(ids) => write_command(alloc, &xdel(Argument(key), ids), out),
         None => Packing::Nothing,
     }
 }
@@ -144,5 +144,5 @@ pub extern "C" fn redis_xdel_entries(
     ensures { IsPackedAs (IsPackingOf (del_args key.now) (ids_at bytes.now entries.now) out.new)
         result len.new }
 {
-    packed_del(alloc, key, bytes, entries, out).tell(len)
+    write_del(alloc, key, bytes, entries, out).tell(len)
 }

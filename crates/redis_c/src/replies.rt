@@ -23,7 +23,7 @@ use redis_wire::{Decoded, Limits, Reply, WireError, decode};
 use std::alloc::Global;
 
 /// The record of a value, for a reply of `len` bytes.
-fn record_of<T: FromRedisValue>(
+fn convert_value<T: FromRedisValue>(
     alloc: Global,
     bytes: &[u8],
     len: usize,
@@ -47,7 +47,7 @@ fn read_record<T: FromRedisValue>(alloc: Global, bytes: &[u8]) -> Result<(T, usi
 {
     match decode(alloc, bytes, Limits::default()) {
         Ok(Decoded::Complete { reply, len }) => match reply {
-            Reply::Value(v) => match record_of::<T>(alloc, bytes, len, v) {
+            Reply::Value(v) => match convert_value::<T>(alloc, bytes, len, v) {
                 Ok(found) => Ok((found, len)),
                 Err(outcome) => Err(outcome),
             },
@@ -92,12 +92,7 @@ fn copy_rows<T: Copy>(
 }
 
 /// The groups of a reply, in tables of the caller.
-fn copied_groups(
-    alloc: Global,
-    bytes: &[u8],
-    groups: &mut [GroupRecord],
-    texts: &mut [u8],
-) -> Records
+fn copy_groups(alloc: Global, bytes: &[u8], groups: &mut [GroupRecord], texts: &mut [u8]) -> Records
     ensures { AreRecords groups_reading bytes.now (HoldGroups groups.new texts.new) length (flat_map group_text)
         (length groups.old) (length texts.old) result }
 {
@@ -127,11 +122,11 @@ pub extern "C" fn redis_xinfo_groups_reply(
     ensures tells { TellsRecords groups_reading length (flat_map group_text) (length groups.old) (length texts.old)
         bytes.now result }
 {
-    copied_groups(alloc, bytes, groups, texts).tell(found)
+    copy_groups(alloc, bytes, groups, texts).tell(found)
 }
 
 /// The pending entries of a reply, in tables of the caller.
-fn copied_entries(
+fn copy_entries(
     alloc: Global,
     bytes: &[u8],
     entries: &mut [PendingRecord],
@@ -166,11 +161,11 @@ pub extern "C" fn redis_xpending_reply(
     ensures tells { TellsRecords pending_count_reading length (flat_map pending_text) (length entries.old)
         (length texts.old) bytes.now result }
 {
-    copied_entries(alloc, bytes, entries, texts).tell(found)
+    copy_entries(alloc, bytes, entries, texts).tell(found)
 }
 
 /// The summary of a reply, in tables of the caller.
-fn copied_summary(
+fn copy_summary(
     alloc: Global,
     bytes: &[u8],
     summary: &mut SummaryRecord,
@@ -208,5 +203,5 @@ pub extern "C" fn redis_xpending_summary_reply(
     ensures tells { TellsRecords pending_reading (λ s. length (summary_consumers s)) summary_text
         (length consumers.old) (length texts.old) bytes.now result }
 {
-    copied_summary(alloc, bytes, summary, consumers, texts).tell(found)
+    copy_summary(alloc, bytes, summary, consumers, texts).tell(found)
 }

@@ -16,7 +16,8 @@ ghost use Rattle.redis_c.specs.Server.{reading_number, reading_count, read_in, I
 use crate::code;
 use crate::commands::ReadSettings;
 use crate::parts::{
-    add_settings, autoclaim_settings, claim_settings, group_place, read_settings, trim_settings,
+    build_add_settings, build_autoclaim_settings, build_claim_settings, build_group_place,
+    build_read_settings, build_trim_settings,
 };
 use crate::placed::{Unplaced, texts_at};
 use crate::settings::{AddSettings, AutoClaimSettings, ClaimSettings, TrimSettings};
@@ -113,7 +114,7 @@ fn of_error(error: SentenceError) -> Reading
 }
 
 /// Parses the options of XADD at the start of the arguments at these places.
-fn add_reading(alloc: Global, bytes: &[u8], places: &[Span], settings: &mut AddSettings) -> Reading
+fn parse_add(alloc: Global, bytes: &[u8], places: &[Span], settings: &mut AddSettings) -> Reading
     ensures is { IsReading AddFits add_sentence add_words Equal (texts_at bytes.now places.now)
         (add_in bytes.now settings.new) result }
     ensures plain { reading_number result ≡ 0 → IsPlainAdd settings.new }
@@ -126,7 +127,7 @@ fn add_reading(alloc: Global, bytes: &[u8], places: &[Span], settings: &mut AddS
         Ok(found) => found,
         Err(error) => return of_error(error),
     };
-    *settings = add_settings(&parts, places);
+    *settings = build_add_settings(&parts, places);
     Reading::Options { count }
 }
 
@@ -144,16 +145,11 @@ pub extern "C" fn redis_read_add(
         (add_in bytes.now settings.new)) result count.new }
     ensures plain { result ≡ 0 → IsPlainAdd settings.new }
 {
-    add_reading(alloc, bytes, places, settings).tell(count)
+    parse_add(alloc, bytes, places, settings).tell(count)
 }
 
 /// Parses the options of XTRIM at the start of the arguments at these places.
-fn trim_reading(
-    alloc: Global,
-    bytes: &[u8],
-    places: &[Span],
-    settings: &mut TrimSettings,
-) -> Reading
+fn parse_trim(alloc: Global, bytes: &[u8], places: &[Span], settings: &mut TrimSettings) -> Reading
     ensures is { IsReading TrimFits trim_sentence trim_words Equal (texts_at bytes.now places.now)
         (trim_in bytes.now settings.new) result }
     ensures plain { reading_number result ≡ 0 → IsPlainTrim settings.new }
@@ -166,7 +162,7 @@ fn trim_reading(
         Ok(found) => found,
         Err(error) => return of_error(error),
     };
-    *settings = trim_settings(&parts, places);
+    *settings = build_trim_settings(&parts, places);
     Reading::Options { count }
 }
 
@@ -184,11 +180,11 @@ pub extern "C" fn redis_read_trim(
         (trim_in bytes.now settings.new)) result count.new }
     ensures plain { result ≡ 0 → IsPlainTrim settings.new }
 {
-    trim_reading(alloc, bytes, places, settings).tell(count)
+    parse_trim(alloc, bytes, places, settings).tell(count)
 }
 
 /// Parses the options of XCLAIM at the start of the arguments at these places.
-fn claim_reading(
+fn parse_claim(
     alloc: Global,
     bytes: &[u8],
     places: &[Span],
@@ -206,7 +202,7 @@ fn claim_reading(
         Ok(found) => found,
         Err(error) => return of_error(error),
     };
-    *settings = claim_settings(&parts, places);
+    *settings = build_claim_settings(&parts, places);
     Reading::Options { count }
 }
 
@@ -224,11 +220,11 @@ pub extern "C" fn redis_read_claim(
         (claim_in bytes.now settings.new)) result count.new }
     ensures plain { result ≡ 0 → IsPlainClaim settings.new }
 {
-    claim_reading(alloc, bytes, places, settings).tell(count)
+    parse_claim(alloc, bytes, places, settings).tell(count)
 }
 
 /// Parses the options of XAUTOCLAIM at the start of the arguments at these places.
-fn autoclaim_reading(
+fn parse_autoclaim(
     alloc: Global,
     bytes: &[u8],
     places: &[Span],
@@ -246,7 +242,7 @@ fn autoclaim_reading(
         Ok(found) => found,
         Err(error) => return of_error(error),
     };
-    *settings = autoclaim_settings(parts);
+    *settings = build_autoclaim_settings(parts);
     Reading::Options { count }
 }
 
@@ -264,11 +260,11 @@ pub extern "C" fn redis_read_autoclaim(
         (texts_at bytes.now places.now) (Some (autoclaim_of settings.new))) result count.new }
     ensures plain { result ≡ 0 → IsPlainAutoClaim settings.new }
 {
-    autoclaim_reading(alloc, bytes, places, settings).tell(count)
+    parse_autoclaim(alloc, bytes, places, settings).tell(count)
 }
 
 /// Parses the options of XREAD or XREADGROUP at the start of the arguments at these places.
-fn read_reading(
+fn parse_read(
     alloc: Global,
     bytes: &[u8],
     places: &[Span],
@@ -288,8 +284,8 @@ fn read_reading(
         Ok(found) => found,
         Err(error) => return of_error(error),
     };
-    *group = group_place(parts.group, places);
-    *settings = read_settings(parts);
+    *group = build_group_place(parts.group, places);
+    *settings = build_read_settings(parts);
     Reading::Options { count }
 }
 
@@ -309,5 +305,5 @@ pub extern "C" fn redis_read_read(
     ensures plain { result ≡ 0 → IsPlainRead settings.new }
     ensures named { result ≡ 0 → IsPlainGroup group.new }
 {
-    read_reading(alloc, bytes, places, settings, group).tell(count)
+    parse_read(alloc, bytes, places, settings, group).tell(count)
 }

@@ -31,7 +31,7 @@ pub fn utf8_at(alloc: Global, bytes: &[u8], place: Span) -> Result<String, Unset
 }
 
 /// The policy of the number for deleted entries in the pending lists of groups, if it has one.
-pub fn policy_by(number: u32) -> Result<Option<StreamDeletionPolicy>, Unset>
+pub fn find_policy(number: u32) -> Result<Option<StreamDeletionPolicy>, Unset>
     ensures { Makes (option_map policy_of) result (policy_by number) }
 {
     if number == 0 {
@@ -48,7 +48,7 @@ pub fn policy_by(number: u32) -> Result<Option<StreamDeletionPolicy>, Unset>
 }
 
 /// `~` if the trimming may keep more entries, and otherwise `=`.
-fn mode_by(approximate: bool) -> StreamTrimmingMode
+fn choose_mode(approximate: bool) -> StreamTrimmingMode
     ensures { mode_of result ≡ mode_by approximate }
 {
     if approximate {
@@ -59,14 +59,14 @@ fn mode_by(approximate: bool) -> StreamTrimmingMode
 }
 
 /// The bound, as a strategy without a limit.
-fn bound_in(
+fn build_bound(
     alloc: Global,
     bytes: &[u8],
     settings: &TrimSettings,
 ) -> Result<StreamTrimStrategy, Unset>
     ensures { Makes strategy_of result (option_map unlimited (bound_in bytes.now settings.now)) }
 {
-    let mode = mode_by(settings.approximate);
+    let mode = choose_mode(settings.approximate);
     if settings.bound == 1 {
         Ok(StreamTrimStrategy::maxlen(mode, settings.maxlen))
     } else if settings.bound == 2 {
@@ -78,14 +78,14 @@ fn bound_in(
 }
 
 /// The bound and the limit.
-fn strategy_in(
+fn build_strategy(
     alloc: Global,
     bytes: &[u8],
     settings: &TrimSettings,
 ) -> Result<StreamTrimStrategy, Unset>
     ensures { Makes strategy_of result (strategy_in bytes.now settings.now) }
 {
-    let strategy = bound_in(alloc, bytes, settings)?;
+    let strategy = build_bound(alloc, bytes, settings)?;
     if settings.has_limit {
         Ok(strategy.limit(settings.limit))
     } else {
@@ -94,7 +94,7 @@ fn strategy_in(
 }
 
 /// The strategy, if anything is trimmed.
-pub fn any_strategy_in(
+pub fn build_any_strategy(
     alloc: Global,
     bytes: &[u8],
     settings: &TrimSettings,
@@ -104,20 +104,20 @@ pub fn any_strategy_in(
     if settings.bound == 0 {
         Ok(None)
     } else {
-        let strategy = strategy_in(alloc, bytes, settings)?;
+        let strategy = build_strategy(alloc, bytes, settings)?;
         Ok(Some(strategy))
     }
 }
 
 /// The settings of XTRIM.
-pub fn trim_in(
+pub fn build_trim_options(
     alloc: Global,
     bytes: &[u8],
     settings: &TrimSettings,
 ) -> Result<StreamTrimOptions, Unset>
     ensures { Makes (λ options. options) result (trim_in bytes.now settings.now) }
 {
-    let strategy = strategy_in(alloc, bytes, settings)?;
-    let policy = policy_by(settings.policy)?;
+    let strategy = build_strategy(alloc, bytes, settings)?;
+    let policy = find_policy(settings.policy)?;
     Ok(trim_with(TrimParts { strategy, policy }))
 }

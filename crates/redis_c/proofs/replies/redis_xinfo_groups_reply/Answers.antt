@@ -3,4 +3,4 @@ use Rattle.redis_c.proofs.replies.redis_xinfo_groups_reply.Goals as goal
 
 pub returns-clause-tells : goal.returns-clause-tells
 returns-clause-tells c =
-    records_tell _ _ _ _ _ _ _ c.copied_groups.result c.tell.result c.tell.ensures.number c.copied_groups.ensures
+    records_tell _ _ _ _ _ _ _ c.copy_groups.result c.tell.result c.tell.ensures.number c.copy_groups.ensures

@@ -3,4 +3,4 @@ use Rattle.redis_c.proofs.replies.redis_xpending_summary_reply.Goals as goal
 
 pub returns-clause-tells : goal.returns-clause-tells
 returns-clause-tells c =
-    records_tell _ _ _ _ _ _ _ c.copied_summary.result c.tell.result c.tell.ensures.number c.copied_summary.ensures
+    records_tell _ _ _ _ _ _ _ c.copy_summary.result c.tell.result c.tell.ensures.number c.copy_summary.ensures
