@@ -62,11 +62,12 @@ def add_connection_options(parser: argparse.ArgumentParser, has_block: bool = Tr
                        "server is the master of this name, which they are asked for before each connection")
 
 
-def add_run_options(parser: argparse.ArgumentParser) -> None:
-    """Adds the options of a program that runs on a connection."""
+def add_run_options(parser: argparse.ArgumentParser, retry: float = 0.0) -> None:
+    """Adds the options of a program that runs on a connection. `retry` is how often it tries again without --retry."""
     group = parser.add_argument_group("runs")
-    group.add_argument("--retry", metavar="TIMES", type=times, default=0.0,
-                       help="tries again this many times in a row, or 'forever' (0)")
+    group.add_argument("--retry", metavar="TIMES", type=times, default=retry,
+                       help="tries again this many times in a row, or 'forever' "
+                       f"({'without end' if retry == math.inf else int(retry)})")
     group.add_argument("--pause", metavar="SECONDS", type=seconds, default=30.0,
                        help="the longest pause before a try (30). The first is half a second, each next one twice as long. "
                        "Of each a part between a half and the whole is waited, by chance")

@@ -34,8 +34,10 @@ With --retry-after a job that failed is pending for CONSUMER.later during its pa
 if this is gone. When a job is given up by --dead, it is told why it failed last.
 
 A command that ends is started again, after a growing pause if it replied to nothing. After five such ends in a row, each
-within ten seconds, this ends. So a job that ends each command needs --dead with a number up to 4. A command that another
-process killed is not counted. If one of --processes ends with an error, the others finish their batches and end too.
+within ten seconds, this ends. So a job that ends each command needs --dead with a number up to 4, or a service that starts
+this again. Each end is a delivery of the job in hand: a command that cannot start has --dead give up healthy jobs. A command
+that another process killed is not counted. If one of --processes ends with an error, the others finish their batches and
+end too.
 After a connection that broke it connects again, without end unless --retry says how often.
 
 With --cluster there is a stream_run and a COMMAND for each partition k of N, on KEY:{k}. URL names one node or more, and
@@ -64,8 +66,7 @@ def add_parser(subparsers: Any) -> None:
     """Adds the subcommand."""
     parser = add_command(subparsers, "run", "Runs a program of any language for each entry of a stream.", USAGE_LINE, TEXT)
     add_connection_options(parser)
-    add_run_options(parser)
-    parser.set_defaults(retry=math.inf)
+    add_run_options(parser, math.inf)
     group = parser.add_argument_group("jobs")
     group.add_argument("--processes", metavar="N", type=count, default=1, help="how many commands run side by side (1)")
     group.add_argument("--job-timeout", metavar="SECONDS", type=seconds,
