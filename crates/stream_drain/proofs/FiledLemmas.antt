@@ -39,7 +39,7 @@ found json first (d ∷ es) behind e whole (inr later) =
     (found json (first ++ (line_in json d ++ 10 ∷ [])) es behind e (one_more first (line_in json d)) later)
 
 -- and so it is in what begins with them
-found_at : (json : Bool) (first : List ℕ) (es : List Entry) (c : List ℕ) → AreLines first
+pub found_at : (json : Bool) (first : List ℕ) (es : List Entry) (c : List ℕ) → AreLines first
     → StartsWith (first ++ lines_in json es) c → (e : Entry) → Among e es → HasLine (line_in json e) c
 found_at json first es c whole starts e among =
     subst (HasLine (line_in json e)) (sym (starts.1 ∙ append_assoc first (lines_in json es) starts.0))

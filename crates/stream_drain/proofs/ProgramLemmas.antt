@@ -1,5 +1,5 @@
 -- A run of the program, by its outcome.
-use Rattle.std.proofs.Common.{◌≡◌, ◌⊎◌, ℕ, Err, IfOk, IfSome, IsTrue, List, Ok, OnErr, OnOk, Option, Result, false, inl, inr, MatchResult, None, Some, ◌++◌, ◌∙◌, ap, append_assoc, drop, subst, sym, take}
+use Rattle.std.proofs.Common.{◌≡◌, ◌⊎◌, ℕ, Bool, Err, IfOk, IfSome, IsSomeAnd, IsTrue, List, Ok, OnErr, OnOk, Option, Result, false, inl, inr, MatchResult, None, Some, ◌++◌, ◌∙◌, ap, append_assoc, drop, subst, sym, take}
 use Rattle.std.proofs.lemmas.List.{take-append-drop}
 use Rattle.worker_journal.specs.Holds.{committed_in}
 use Rattle.worker_journal.specs.Lines.{IsRepaired, StartsWith}
@@ -11,9 +11,11 @@ use Rattle.worker.specs.declared.dead_letters.search.DeadLetterSearch.{DeadLette
 use Rattle.worker.specs.declared.state.Asked.{Asked}
 use Rattle.worker.specs.declared.state.Settings.{Settings}
 use Rattle.stream_drain.specs.Lived.{Leads}
+use Rattle.stream_drain.specs.Known.{Known}
 use Rattle.stream_drain.specs.Options.{AreOptionsOf}
 use Rattle.stream_drain.specs.Program.{BeginsFile, EndsAsSaid, EndsBy, EndsSo, Goes, GoesToTheEnd, IsRun, RunsAsSaid, RunsBy, SearchesAfter, Starts, StartsIn, settings_with}
 use Rattle.command_lines.specs.Words.{Text}
+use Rattle.stream_drain.specs.Resumed.{KnowsItsFile}
 use Rattle.stream_drain.specs.declared.options.Options.{Options}
 use Rattle.stream_drain.specs.Turn.{EachIsConfirmed}
 use Rattle.stream_drain.specs.Written.{Written}
@@ -89,7 +91,7 @@ pub begins_file : (file new : Option Text) (len : ℕ) → IsRepaired file new �
 begins_file None new len repaired = tt
 begins_file (Some bytes) new len repaired =
     let (lines, torn, parts, is) = repaired in
-    subst (λ (n : Option Text). IfSome (committed_in n len) (λ front. StartsWith front bytes)) (sym is) (
+    subst (λ (n : Option Text). IsSomeAnd (committed_in n len) (λ front. StartsWith front bytes)) (sym is) (
       drop len lines ++ torn,
       parts.split ∙ (ap (λ (xs : Text). xs ++ torn) (sym (take-append-drop len lines))
           ∙ append_assoc (take len lines) (drop len lines) torn),
@@ -103,6 +105,22 @@ opened_so {L = L} {E = E} seen len file opened (Ok x) P is repaired =
     begins_file file (seen x) (len x)
     (subst (λ (r : Result L E). IfOk r (λ lines. IsRepaired file (seen lines))) is repaired)
 opened_so seen len file opened (Err e) P is repaired = tt
+
+-- lines that were opened know the ids of their file
+pub opened_knows : {L E F : Type 0} (seen : L → Option Text) (len : L → ℕ) (form : L → Bool) (known : L → Known)
+    (N : L → Type 0) (file : Option Text) (json : Bool) (opened : Result L E) (result : Result L F) (P : F → Type 0)
+    → ((lines : L) → N lines → form lines ≡ json) → MatchResult result (λ x. opened ≡ Ok x) P → IfOk opened N
+    → IfOk opened (λ lines. IfSome file (λ _. IfSome (committed_in (seen lines) (len lines))
+    (λ bytes. KnowsItsFile json bytes (known lines))))
+    → IfOk result (λ lines. IfSome file (λ _. IfSome (committed_in (seen lines) (len lines))
+    (λ bytes. KnowsItsFile (form lines) bytes (known lines))))
+opened_knows {L = L} {E = E} seen len form known N file json opened (Ok x) P formed is new knows =
+    let same = formed x (subst (λ (r : Result L E). IfOk r N) is new) in
+    subst (λ (j : Bool). IfSome file (λ _. IfSome (committed_in (seen x) (len x))
+    (λ bytes. KnowsItsFile j bytes (known x)))) (sym same)
+    (subst (λ (r : Result L E). IfOk r (λ lines. IfSome file (λ _. IfSome (committed_in (seen lines) (len lines))
+    (λ bytes. KnowsItsFile json bytes (known lines))))) is knows)
+opened_knows seen len form known N file json opened (Err e) P formed is new knows = tt
 
 -- a run by options, from where its lines began
 module _ {A E : Type 0} (r : Result A E) (content : Text → Option Text) (o : Options) (old new : Link) (w : Written)

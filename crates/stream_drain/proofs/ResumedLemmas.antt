@@ -1,15 +1,16 @@
 -- A worker that acknowledges first what the last lines of its file say.
-use Rattle.std.proofs.Common.{◌≡◌, ◌∙◌, ◌-◌, inl, inr, refl, sym, ap, ap₂, subst, ℕ, zero, suc, Bool, true, List, [], ◌∷◌, ◌++◌}
+use Rattle.std.proofs.Common.{◌≡◌, ◌∙◌, ◌-◌, inl, inr, refl, sym, ap, ap₂, subst, ℕ, zero, suc, Bool, false, true, List, [], ◌∷◌, ◌++◌}
 use Rattle.std.proofs.Common.{length, map, Some, None, append-nil, arith, drop}
 use Rattle.std.proofs.lemmas.List.{drop-map}
 use Rattle.worker_journal.specs.EntryLine.{Entry}
 use Rattle.worker_journal.specs.LastLines.{last_of, lines_of}
-use Rattle.worker_journal.specs.Lines.{AreLines}
+use Rattle.worker_journal.specs.Lines.{AreLines, HasLine}
 use Rattle.worker_journal.proofs.LastLinesLemmas.{last_all, last_join, lines_join}
 use Rattle.model_server.specs.Group.Group.{listed}
 use Rattle.model_server.specs.Group.Law.{Among}
 use Rattle.model_server.specs.Group.Worker.{Id}
 use Rattle.model_workers.specs.Loops.Shown.{with_doings}
+use Rattle.model_server.proofs.GroupLemmas.Among.{among_of_map, listed_among}
 use Rattle.model_server.proofs.OnceLemmas.Apart.{among_listed}
 use Rattle.worker.specs.Life.{IsCommitted, Lives, done_before, resumes}
 use Rattle.worker.specs.Session.{Standing}
@@ -17,10 +18,12 @@ use Rattle.worker.specs.declared.state.Settings.{Settings}
 use Rattle.stream_drain.specs.Line.{line_in}
 use Rattle.stream_drain.specs.Filed.{with_bytes}
 use Rattle.stream_drain.specs.Lived.{LivesSo}
-use Rattle.stream_drain.specs.Resumed.{AreLast, BeginsSo, BeginsWithLast, ResumedIsLived, StartsOverItsFile, TellEach}
+use Rattle.stream_drain.specs.Resumed.{AreLast, BeginsSo, BeginsWithLast, KnownAreThere, ResumedIsLived}
+use Rattle.stream_drain.specs.Resumed.{StartsOverItsFile, TellEach}
 use Rattle.stream_drain.specs.Resumed.{ids_in, resumed_so}
 use Rattle.stream_drain.specs.Known.{Known}
 use Rattle.stream_drain.specs.Written.{Written, lines_in}
+use Rattle.stream_drain.proofs.FiledLemmas.{found_at}
 use Rattle.stream_drain.proofs.LinesLemmas.{lines_are}
 use Rattle.stream_drain.proofs.WrittenLemmas.{each_line, no_lines, none_known, none_newer}
 
@@ -43,6 +46,16 @@ resumed_is_lived settings json first es = record {
   written = sym (ap₂ (λ (k : Known) (xs : List Entry). written_as json k (first ++ lines_in json xs)) (none_known es)
       (each_line es));
 }
+
+-- ---- what it knows is there
+
+pub known_are_there : KnownAreThere
+known_are_there json None es knows id is = absurd (let t : false ≡ true = is in cc)
+known_are_there json (Some known) es knows id is =
+    let among = listed_among (ids_in es) id (sym (knows es (lines_are json es) id) ∙ is) in
+    let e = among_of_map (λ (e : Entry). e.0) id es among in
+    let line = found_at json [] es (lines_in json es) (inl refl) ([], sym (append-nil (lines_in json es))) e.x e.within in
+    (e.x.1, subst (λ (i : Id). HasLine (line_in json (i, e.x.1)) (lines_in json es)) e.is line)
 
 -- ---- it is started so
 

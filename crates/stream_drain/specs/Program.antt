@@ -1,5 +1,5 @@
 -- A run of the program, in terms of its options and of its arguments.
-use Rattle.std.specs.Prelude.{◌≡◌, [], ℕ, List, Option, None, Some, IfSome, IsTrue, is_some, max, string_bytes, true}
+use Rattle.std.specs.Prelude.{◌≡◌, [], ℕ, List, Option, None, Some, IfSome, IsSomeAnd, IsTrue, is_some, max, string_bytes, true}
 use Rattle.redis_connection.specs.Link.{Link}
 use Rattle.redis_connection.specs.declared.wait.Wait.{Wait}
 use Rattle.model_workers.specs.Loops.Loop.{Drains, Loops}
@@ -13,7 +13,7 @@ use Rattle.worker.specs.declared.state.Asked.{Asked}
 use Rattle.worker.specs.declared.state.Settings.{Settings}
 use Rattle.stream_drain.specs.Lived.{Leads}
 use Rattle.stream_drain.specs.Options.{AreOptionsOf}
-use Rattle.stream_drain.specs.Resumed.{BeginsSo, BeginsWithLast}
+use Rattle.stream_drain.specs.Resumed.{BeginsSo, BeginsWithLast, KnowsItsFile}
 use Rattle.command_lines.specs.Words.{Text}
 use Rattle.stream_drain.specs.declared.options.Options.{Options}
 use Rattle.stream_drain.specs.Turn.{EachIsConfirmed}
@@ -81,15 +81,22 @@ pub record EndsSo (settings : Settings) (wait : Option Wait) (lines : Written) (
   pub starts : Starts settings lines first
   pub goes : GoesToTheEnd settings wait first old new
 
--- the bytes of a file begin with the committed text, if both are known
+-- if the bytes of a file are known, the committed text is known, and the file begins with it
 abbrev pub BeginsFile : Option Text → Option Text → Type 0
-BeginsFile file committed = IfSome file (λ bytes. IfSome committed (λ lines. StartsWith lines bytes))
+BeginsFile file committed = IfSome file (λ bytes. IsSomeAnd committed (λ lines. StartsWith lines bytes))
 
--- The handler's first lines. FILE begins with the committed lines, and no lines are gathered.
+-- the known ids are those of the committed text, if the bytes of the file are known
+abbrev pub KnowsWhatItHas : Option Text → Written → Type 0
+KnowsWhatItHas file lines =
+    IfSome file (λ _. IfSome lines.committed (λ bytes. KnowsItsFile lines.json bytes lines.known))
+
+-- The handler's first lines. FILE begins with the committed lines, and no lines are gathered. With `--look-up` the
+-- known ids are those of these lines.
 pub record StartsIn (content : Text → Option Text) (o : Options) (lines : Written) : Type 0 where
   pub file : BeginsFile (content (string_bytes o.path)) lines.committed
   pub json : lines.json ≡ o.json
   pub look_up : is_some lines.known ≡ o.look_up
+  pub knows : KnowsWhatItHas (content (string_bytes o.path)) lines
   pub none : lines.loose ≡ []
 
 -- `--until-empty` is given, and the loop ended after complete rounds

@@ -12,7 +12,7 @@ use Rattle.worker.specs.declared.state.Settings.{Settings}
 use Rattle.worker.specs.declared.worker.Worker.{Worker}
 use Rattle.model_workers.specs.System.Rounds.{IsStarted}
 use Rattle.stream_drain.specs.Line.{line_in}
-use Rattle.stream_drain.specs.Filed.{with_bytes}
+use Rattle.stream_drain.specs.Filed.{AreThere, with_bytes}
 use Rattle.stream_drain.specs.Lived.{LivesSo}
 use Rattle.stream_drain.specs.Known.{Known}
 use Rattle.stream_drain.specs.Written.{Written, lines_in}
@@ -83,3 +83,9 @@ abbrev pub StartsOverItsFile : Type 0
 StartsOverItsFile = (number : ℕ) (settings : Settings) (json : Bool) (known : Known) (es : List Entry) (worker : Worker)
     (history : Written) → BeginsWithLast number settings json known (lines_in json es) (standing_of worker history)
     → IsStarted settings (ids_in (last_of number es)) worker
+
+-- the law: If the file consists of lines of entries, and the known ids are those of the file, each known id has a
+-- line there.
+abbrev pub KnownAreThere : Type 0
+KnownAreThere = (json : Bool) (known : Known) (es : List Entry) → KnowsItsFile json (lines_in json es) known
+    → AreThere json known (lines_in json es)

@@ -4,7 +4,7 @@ ghost use Rattle.stream_drain.specs.Failover.{LinesAreTheRecords, StartsOverTheM
 ghost use Rattle.stream_drain.specs.Filed.{AcknowledgedIsFiled};
 ghost use Rattle.stream_drain.specs.Lived.{RoundsAreLived};
 ghost use Rattle.stream_drain.specs.Once.{LooksUpAsTheModel, NoIdIsTwice, StartsLookingUp};
-ghost use Rattle.stream_drain.specs.Resumed.{ResumedIsLived, StartsOverItsFile};
+ghost use Rattle.stream_drain.specs.Resumed.{KnownAreThere, ResumedIsLived, StartsOverItsFile};
 ghost use Rattle.stream_drain.specs.Tell.{LinesAreAForm, LinesTellEntries};
 ghost use Rattle.stream_drain.specs.Written.{GathersItsLines};
 
@@ -27,6 +27,12 @@ pub fn rounds_are_lived()
 /// The line remains in the file after any crash.
 pub fn acknowledged_is_filed()
     ensures { AcknowledgedIsFiled }
+{}
+
+/// Let the file consist of lines of entries, and let a start with `--look-up` know the ids of its lines. Then each
+/// known id has a line, as `acknowledged_is_filed` requires.
+pub fn known_are_there()
+    ensures { KnownAreThere }
 {}
 
 /// Let a worker start by acknowledging the entries of the last lines of its file. Then it is in a state after

@@ -27,8 +27,8 @@ ghost use Rattle.std.specs.Prelude.{◌≡◌, ◌≤◌, ◌⊎◌, [], IfOk, I
 ghost use Rattle.std.specs.Process.{exit_status};
 ghost use Rattle.model_workers.specs.Loops.Loop.{Drains};
 ghost use Rattle.worker_journal.specs.Holds.{committed_in};
-ghost use Rattle.stream_drain.specs.Program.{BeginsFile, EndsAsSaid, EndsBy, EndsSo, Goes, GoesToTheEnd, IsRun, RunsAsSaid, RunsBy};
-ghost use Rattle.stream_drain.specs.Program.{Starts, searcher_by, settings_with};
+ghost use Rattle.stream_drain.specs.Program.{BeginsFile, EndsAsSaid, EndsBy, EndsSo, Goes, GoesToTheEnd, IsRun};
+ghost use Rattle.stream_drain.specs.Program.{KnowsWhatItHas, RunsAsSaid, RunsBy, Starts, searcher_by, settings_with};
 ghost use Rattle.worker.specs.Session.{standing_of};
 ghost use Rattle.worker.specs.DeadLetters.Dead.{searcher_of};
 ghost use Rattle.command_lines.specs.Words.{asks_help};
@@ -311,6 +311,8 @@ fn open_lines<D: LogFile + Drop, F: Open<D>>(
         (committed_in (D.seen lines.log.file) lines.log.len)) }
     ensures json { IfOk result (λ lines. lines.json ≡ json) }
     ensures looks { IfOk result (λ lines. is_some lines.known ≡ look_up) }
+    ensures knows { IfOk result (λ lines. KnowsWhatItHas (F.content files.now path.now)
+        (⟦<Lines<D> as Handler>⟧.history lines)) }
     ensures none { IfOk result (λ lines. lines.log.batch.items ≡ []) }
 {
     let file = match files.open(path) {
