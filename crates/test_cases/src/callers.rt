@@ -4,9 +4,9 @@
 //! caller    customer Array[Array[1-0, Array[customer, bob]]]        Some("bob")
 //! ```
 //!
-//! The input is a word that selects the case, and a value in the notation of `test_notation::notation`:
-//! the reply of a server, bytes of a server, or the argument of the call. Commands are printed as
-//! their arguments with a space between two, records as `Debug` prints them.
+//! The input is a word that selects the case, and a value in the notation of `test_notation::notation`. The value is
+//! the reply of a server, bytes of a server, or the argument of the call. Commands are printed as their arguments
+//! with a space between each two, records as `Debug` prints them.
 ghost use Rattle.std.specs.Prelude.{ℕ, List, None, IfOk, IsSome, IsTrue};
 ghost use Rattle.test_cases.specs.Kinds.{is_caller};
 
@@ -40,76 +40,77 @@ use worker_journal::{
     LineLog, LogError, LogFile, MemoryFile, TornFile, entry_in, push_escaped, repair,
 };
 
-/// The outcome of a case, if its kind is `caller`.
-pub fn outcome(alloc: Global, kind: &str, input: &str) -> Result<Option<String>>
+/// Runs a case of this module. Returns its outcome, or `None` if its kind is not `caller`.
+pub fn run_case(alloc: Global, kind: &str, input: &str) -> Result<Option<String>>
     ensures { IfOk result (λ o. IsSome o → IsTrue (is_caller kind.now)) }
 {
     match kind {
-        "caller" => Ok(Some(answer(alloc, input)?)),
+        "caller" => Ok(Some(run_input(alloc, input)?)),
         _ => Ok(None),
     }
 }
 
-/// The outcome of a case.
-fn answer(alloc: Global, case: &str) -> Result<String> {
+/// Returns the outcome of an input: a word, a space and a value.
+fn run_input(alloc: Global, case: &str) -> Result<String> {
     match case.split_once(' ') {
-        Some((word, notation)) => answer_of(alloc, word, read_value(alloc, notation)?),
+        Some((word, notation)) => run_word(alloc, word, read_value(alloc, notation)?),
         None => bail!("no value"),
     }
 }
 
-/// The outcome of the case of this word with this value.
-fn answer_of(alloc: Global, word: &str, value: Value) -> Result<String> {
+/// Returns the outcome of the case that this word selects, with this value.
+fn run_word(alloc: Global, word: &str, value: Value) -> Result<String> {
     match word {
-        "worker-reads" => reads(alloc, value),
-        "ids" => ids(alloc, value),
-        "acknowledges" => acknowledges(alloc, value),
-        "batch" => batch(alloc, value),
-        "claims" => claims(alloc, value),
-        "stalled" => stalled(alloc, value),
-        "too-often" => too_often(alloc, value),
-        "lag" => lag(alloc, value),
-        "groups" => groups(alloc, value),
-        "deletion" => deletion(alloc, value),
-        "acknowledgement" => acknowledgement(alloc, value),
-        "sends" => sends(alloc, value),
-        "serves" => serves(alloc, value),
-        "group-of" => group_of(alloc, value),
-        "orders" => orders(alloc, value),
-        "order" => order(alloc, value),
-        "number" => number(alloc, value),
-        "number-of-entry" => number_of_entry(alloc, value),
-        "readme" => readme(alloc, value),
-        "customer" => customer(alloc, value),
-        "repairs" => repairs(alloc, value),
-        "commits" => commits(alloc, value),
-        "crashes" => crashes(alloc, value),
-        "last-lines" => last_lines(alloc, value),
-        "lines-of-fronts" => lines_of_fronts(alloc, value),
-        "tears" => tears(alloc, value),
-        "files" => files(alloc, value),
-        "escapes" => escapes(alloc, value),
-        "line" => line(alloc, value),
-        "protocols" => protocols(alloc, value),
-        "streams" => streams(alloc, value),
-        "order-sent" => order_sent(alloc, value),
-        "order-answered" => order_answered(alloc, value),
+        "worker-reads" => format_xreadgroup(alloc, value),
+        "ids" => format_ids(alloc, value),
+        "acknowledges" => format_xack(alloc, value),
+        "batch" => sort_batch(alloc, value),
+        "claims" => format_xautoclaim(alloc, value),
+        "stalled" => read_stalled(alloc, value),
+        "too-often" => list_delivered_too_often(alloc, value),
+        "lag" => read_lags(alloc, value),
+        "groups" => read_group_states(alloc, value),
+        "deletion" => read_deletion(alloc, value),
+        "acknowledgement" => read_acknowledgement(alloc, value),
+        "sends" => send_all(alloc, value),
+        "serves" => parse_requests(alloc, value),
+        "group-of" => format_group_options(alloc, value),
+        "orders" => format_orders(alloc, value),
+        "order" => read_order(alloc, value),
+        "number" => read_number(alloc, value),
+        "number-of-entry" => read_numbers(alloc, value),
+        "readme" => format_readme_command(alloc, value),
+        "customer" => read_customer(alloc, value),
+        "repairs" => repair_file(alloc, value),
+        "commits" => commit_batches(alloc, value),
+        "crashes" => count_crashes(alloc, value),
+        "last-lines" => read_last_lines(alloc, value),
+        "lines-of-fronts" => read_lines_of_prefixes(alloc, value),
+        "tears" => commit_to_torn_file(alloc, value),
+        "files" => commit_to_file(alloc, value),
+        "escapes" => escape_text(alloc, value),
+        "line" => read_entry(alloc, value),
+        "protocols" => read_both_protocols(alloc, value),
+        "streams" => read_streams(alloc, value),
+        "order-sent" => encode_order(alloc, value),
+        "order-answered" => decode_order_id(alloc, value),
         _ => bail!("no such word"),
     }
 }
 
 // The commands of a producer, the requests that a server parses, and types of a user's own.
 
-/// A producer that sends its ninth entry.
-fn ninth(alloc: Global) -> Result<Producer> {
+/// Returns a producer that sends its ninth entry next.
+fn make_producer(alloc: Global) -> Result<Producer> {
     let id = String::from_str(alloc, "p")?;
     Ok(Producer { id, number: 9 })
 }
 
-/// The command that a producer sends before each of these replies, and whether it accepts the reply as an id.
-fn sends(alloc: Global, answers: Value) -> Result<String> {
+/// Returns the command that a producer sends before each of these replies, and whether it accepts the reply as an
+/// id.
+fn send_all(alloc: Global, answers: Value) -> Result<String> {
     let answers: Vec<Value> = from_redis_value(alloc, answers)?;
-    let mut producer = ninth(alloc)?;
+    let mut producer = make_producer(alloc)?;
     let mut said = String::new(alloc);
     for answer in answers {
         said.push_str(&send(alloc, &mut producer, answer)?)?;
@@ -117,10 +118,10 @@ fn sends(alloc: Global, answers: Value) -> Result<String> {
     Ok(said)
 }
 
-/// The command that the producer sends before this reply, and whether it accepts the reply as an id.
+/// Returns the command that the producer sends before this reply, and whether it accepts the reply as an id.
 fn send(alloc: Global, producer: &mut Producer, answer: Value) -> Result<String> {
     let sent = producer.arguments(alloc, "jobs", 1000, &[("order", b"17".as_slice())])?;
-    let sent = line_of(alloc, &sent)?;
+    let sent = format_arguments(alloc, &sent)?;
     let is_id = match producer.answered(alloc, answer) {
         Ok(_id) => true,
         Err(ProducerError::Answer(ParsingError::Memory)) => return Err(AllocError.into()),
@@ -129,28 +130,28 @@ fn send(alloc: Global, producer: &mut Producer, answer: Value) -> Result<String>
     Ok(format!(in alloc; "{sent} ({is_id}) ")?)
 }
 
-/// The requests that a server parses from the command of a producer with a body of these bytes: from all
-/// arguments after the key, from those from `~` on, and from the options alone.
-fn serves(alloc: Global, body: Value) -> Result<String> {
+/// Returns the requests that a server parses from the command of a producer with a body of these bytes. They are
+/// parsed from all arguments after the key, from those from `~` on, and from the options alone.
+fn parse_requests(alloc: Global, body: Value) -> Result<String> {
     let body: RawBytes = from_redis_value(alloc, body)?;
-    let producer = ninth(alloc)?;
+    let producer = make_producer(alloc)?;
     let fields = [("body", body.0.as_slice())];
     let sent = producer.arguments(alloc, "jobs", 1000, &fields)?;
     let mut said = String::new(alloc);
     for (from, to) in [(2usize, 11usize), (6, 11), (2, 8)] {
         match sent.get(from..to) {
-            Some(arguments) => said.push_str(&serve(alloc, arguments)?)?,
+            Some(arguments) => said.push_str(&parse_request(alloc, arguments)?)?,
             None => bail!("other arguments"),
         }
     }
     Ok(said)
 }
 
-/// The request that a server parses from arguments.
-fn serve(alloc: Global, arguments: &[Vec<u8>]) -> Result<String> {
+/// Returns the request that a server parses from arguments, or `nothing`.
+fn parse_request(alloc: Global, arguments: &[Vec<u8>]) -> Result<String> {
     match add_request(alloc, arguments) {
         Ok(asked) => {
-            let options = line_of(alloc, &asked.options)?;
+            let options = format_arguments(alloc, &asked.options)?;
             Ok(format!(in alloc; "{options}, {:?}, {:?}; ", asked.id, asked.fields)?)
         }
         Err(SentenceError::NotASentence) => Ok(String::from_str(alloc, "nothing; ")?),
@@ -158,31 +159,31 @@ fn serve(alloc: Global, arguments: &[Vec<u8>]) -> Result<String> {
     }
 }
 
-/// The options of a read for the group with this number.
-fn group_of(alloc: Global, number: Value) -> Result<String> {
+/// Returns the options of a read for the group with this number.
+fn format_group_options(alloc: Global, number: Value) -> Result<String> {
     let number: OrderId = from_redis_value(alloc, number)?;
     let options = StreamReadOptions::default().group(alloc, number, "worker")?;
-    line_of(alloc, &options)
+    format_arguments(alloc, &options)
 }
 
-/// The arguments that a list of orders writes.
-fn orders(alloc: Global, list: Value) -> Result<String> {
+/// Returns the arguments that a list of orders writes.
+fn format_orders(alloc: Global, list: Value) -> Result<String> {
     let orders: Vec<Order> = from_redis_value(alloc, list)?;
-    line_of(alloc, &orders)
+    format_arguments(alloc, &orders)
 }
 
 /// Reads a value as an order.
-fn order(alloc: Global, value: Value) -> Result<String> {
-    reading_text(alloc, from_redis_value::<Order>(alloc, value))
+fn read_order(alloc: Global, value: Value) -> Result<String> {
+    format_result(alloc, from_redis_value::<Order>(alloc, value))
 }
 
 /// Reads a value as the number of an order, `None` for nil.
-fn number(alloc: Global, value: Value) -> Result<String> {
-    reading_text(alloc, from_redis_value::<Option<OrderId>>(alloc, value))
+fn read_number(alloc: Global, value: Value) -> Result<String> {
+    format_result(alloc, from_redis_value::<Option<OrderId>>(alloc, value))
 }
 
 /// Reads each of three fields of the one entry of a range as a number.
-fn number_of_entry(alloc: Global, answer: Value) -> Result<String> {
+fn read_numbers(alloc: Global, answer: Value) -> Result<String> {
     let reply: StreamRangeReply = from_redis_value(alloc, answer)?;
     let [entry] = reply.ids.as_slice() else {
         bail!("not one entry");
@@ -194,43 +195,43 @@ fn number_of_entry(alloc: Global, answer: Value) -> Result<String> {
     Ok(format!(in alloc; "{numbers:?}")?)
 }
 
-/// The command of the README.
-fn readme(alloc: Global, _none: Value) -> Result<String> {
-    line_of(alloc, &readme::read_arguments(alloc)?)
+/// Returns the command of the README.
+fn format_readme_command(alloc: Global, _none: Value) -> Result<String> {
+    format_arguments(alloc, &readme::read_arguments(alloc)?)
 }
 
-/// The customer of the first entry of a range.
-fn customer(alloc: Global, answer: Value) -> Result<String> {
-    reading_text(alloc, readme::first_customer(alloc, answer))
+/// Returns the customer of the first entry of a range.
+fn read_customer(alloc: Global, answer: Value) -> Result<String> {
+    format_result(alloc, readme::first_customer(alloc, answer))
 }
 
 // The work of a consumer of a group.
 
-/// The command with which a worker reads the stream of this name.
-fn reads(alloc: Global, key: Value) -> Result<String> {
+/// Returns the XREADGROUP with which a worker reads the stream of this key.
+fn format_xreadgroup(alloc: Global, key: Value) -> Result<String> {
     let key: String = from_redis_value(alloc, key)?;
-    line_of(
+    format_arguments(
         alloc,
         &worker::read_arguments(alloc, "g", "c", 5000, 10, &key)?,
     )
 }
 
-/// The ids that a worker acknowledges after this reply to XREADGROUP.
-fn ids(alloc: Global, answer: Value) -> Result<String> {
-    line_of(alloc, &ids_answered(alloc, answer)?)
+/// Returns the ids that a worker acknowledges after this reply to XREADGROUP.
+fn format_ids(alloc: Global, answer: Value) -> Result<String> {
+    format_arguments(alloc, &ids_answered(alloc, answer)?)
 }
 
-/// The command that acknowledges the entries of the one stream of a reply.
-fn acknowledges(alloc: Global, answer: Value) -> Result<String> {
+/// Returns the XACK of the entries of the one stream of a reply.
+fn format_xack(alloc: Global, answer: Value) -> Result<String> {
     let reply: StreamReadReply = from_redis_value(alloc, answer)?;
     match reply.keys.as_slice() {
-        [stream] => line_of(alloc, &acknowledge_arguments(alloc, "g", stream)?),
+        [stream] => format_arguments(alloc, &acknowledge_arguments(alloc, "g", stream)?),
         _ => bail!("not one stream"),
     }
 }
 
-/// The orders of the one stream of a reply, and the entries that are not orders.
-fn batch(alloc: Global, answer: Value) -> Result<String> {
+/// Returns the orders of the one stream of a reply, and the entries that are not orders.
+fn sort_batch(alloc: Global, answer: Value) -> Result<String> {
     let reply: StreamReadReply = from_redis_value(alloc, answer)?;
     match reply.keys.as_slice() {
         [stream] => Ok(format!(in alloc; "{:?}", sort_out(alloc, &stream.ids)?)?),
@@ -238,32 +239,32 @@ fn batch(alloc: Global, answer: Value) -> Result<String> {
     }
 }
 
-/// The command that claims entries of the stream of this name.
-fn claims(alloc: Global, key: Value) -> Result<String> {
+/// Returns the XAUTOCLAIM that claims entries of the stream of this key.
+fn format_xautoclaim(alloc: Global, key: Value) -> Result<String> {
     let key: String = from_redis_value(alloc, key)?;
     let claim = claim_arguments(alloc, &key, "g", "c", 60000, "0-0", 25)?;
-    line_of(alloc, &claim)
+    format_arguments(alloc, &claim)
 }
 
-/// The result of reading a reply to XAUTOCLAIM.
-fn stalled(alloc: Global, answer: Value) -> Result<String> {
-    reading_text(alloc, stalled_in(alloc, answer))
+/// Returns the result of reading a reply to XAUTOCLAIM.
+fn read_stalled(alloc: Global, answer: Value) -> Result<String> {
+    format_result(alloc, stalled_in(alloc, answer))
 }
 
-/// The ids of a reply to XPENDING that were delivered five times or more.
-fn too_often(alloc: Global, answer: Value) -> Result<String> {
+/// Returns the ids of a reply to XPENDING that were delivered five times or more.
+fn list_delivered_too_often(alloc: Global, answer: Value) -> Result<String> {
     let pending: StreamPendingCountReply = from_redis_value(alloc, answer)?;
-    line_of(alloc, &delivered_too_often(alloc, &pending, 5)?)
+    format_arguments(alloc, &delivered_too_often(alloc, &pending, 5)?)
 }
 
-/// The lag of the groups `g` and `h` in a reply to XINFO GROUPS.
-fn lag(alloc: Global, answer: Value) -> Result<String> {
+/// Returns the lag of the groups `g` and `h` in a reply to XINFO GROUPS.
+fn read_lags(alloc: Global, answer: Value) -> Result<String> {
     let groups: StreamInfoGroupsReply = from_redis_value(alloc, answer)?;
     Ok(format!(in alloc; "{:?} {:?}", lag_of(&groups, "g"), lag_of(&groups, "h"))?)
 }
 
-/// The state of each group in a reply to XINFO STREAM FULL, at the time of 10,000 milliseconds.
-fn groups(alloc: Global, answer: Value) -> Result<String> {
+/// Returns the state of each group in a reply to XINFO STREAM FULL, at the time of 10,000 milliseconds.
+fn read_group_states(alloc: Global, answer: Value) -> Result<String> {
     let reply: StreamInfoFullReply = from_redis_value(alloc, answer)?;
     let mut states = Vec::new(alloc);
     for group in &reply.groups {
@@ -272,39 +273,39 @@ fn groups(alloc: Global, answer: Value) -> Result<String> {
     Ok(format!(in alloc; "{states:?}")?)
 }
 
-/// Whether a code of XDELEX means that the entry is left in the stream.
-fn deletion(alloc: Global, code: Value) -> Result<String> {
+/// Returns whether a code of XDELEX means that the entry is left in the stream.
+fn read_deletion(alloc: Global, code: Value) -> Result<String> {
     let left = match deletion_of(alloc, code) {
         Ok(status) => Ok(is_left(&status)),
         Err(error) => Err(error),
     };
-    reading_text(alloc, left)
+    format_result(alloc, left)
 }
 
-/// Whether a code of XACKDEL means that the entry was pending.
-fn acknowledgement(alloc: Global, code: Value) -> Result<String> {
+/// Returns whether a code of XACKDEL means that the entry was pending.
+fn read_acknowledgement(alloc: Global, code: Value) -> Result<String> {
     let pending = match acknowledgement_of(alloc, code) {
         Ok(status) => Ok(was_pending(&status)),
         Err(error) => Err(error),
     };
-    reading_text(alloc, pending)
+    format_result(alloc, pending)
 }
 
 // Bytes from a server, and bytes for one.
 
-/// The ids of the entries of a reply to XREADGROUP in RESP2, and of one in RESP3.
-fn protocols(alloc: Global, both: Value) -> Result<String> {
+/// Returns the ids of the entries of a reply to XREADGROUP in RESP2, and of one in RESP3.
+fn read_both_protocols(alloc: Global, both: Value) -> Result<String> {
     let (resp2, resp3): (RawBytes, RawBytes) = from_redis_value(alloc, both)?;
     let Ok((first, second)) = streams_of_both(alloc, &resp2.0, &resp3.0) else {
         bail!("no streams");
     };
-    let first = line_of(alloc, &ids_to_acknowledge(alloc, &first)?)?;
-    let second = line_of(alloc, &ids_to_acknowledge(alloc, &second)?)?;
+    let first = format_arguments(alloc, &ids_to_acknowledge(alloc, &first)?)?;
+    let second = format_arguments(alloc, &ids_to_acknowledge(alloc, &second)?)?;
     Ok(format!(in alloc; "{first} = {second}")?)
 }
 
-/// The streams in the bytes of a reply, the code of a server's error, or why there are no streams.
-fn streams(alloc: Global, bytes: Value) -> Result<String> {
+/// Returns the streams in the bytes of a reply, the code of a server's error, or why there are no streams.
+fn read_streams(alloc: Global, bytes: Value) -> Result<String> {
     let bytes: RawBytes = from_redis_value(alloc, bytes)?;
     match streams_answered(alloc, &bytes.0) {
         Err(AnswerError::Memory | AnswerError::Parsing(ParsingError::Memory)) => {
@@ -317,15 +318,15 @@ fn streams(alloc: Global, bytes: Value) -> Result<String> {
     }
 }
 
-/// The bytes of an order of this customer.
-fn order_sent(alloc: Global, customer: Value) -> Result<String> {
+/// Returns the bytes of the XADD of an order of this customer, as text.
+fn encode_order(alloc: Global, customer: Value) -> Result<String> {
     let customer: String = from_redis_value(alloc, customer)?;
     let sent = String::from_utf8(order_bytes(alloc, &customer)?)?;
     Ok(format!(in alloc; "{sent:?}")?)
 }
 
-/// The id of an order in the bytes of a server's reply.
-fn order_answered(alloc: Global, bytes: Value) -> Result<String> {
+/// Returns the id of an order in the bytes of a server's reply.
+fn decode_order_id(alloc: Global, bytes: Value) -> Result<String> {
     let bytes: RawBytes = from_redis_value(alloc, bytes)?;
     match decode(alloc, &bytes.0, Limits::default())? {
         Decoded::Complete {
@@ -338,16 +339,16 @@ fn order_answered(alloc: Global, bytes: Value) -> Result<String> {
 
 // A line log over files in memory, and over one that is too small.
 
-/// The content of a file of these bytes after it was opened, whether or not its last line has an end.
-fn repairs(alloc: Global, before: Value) -> Result<String> {
+/// Returns the content of a file of these bytes after `repair`, whether or not its last line has an end.
+fn repair_file(alloc: Global, before: Value) -> Result<String> {
     let before: RawBytes = from_redis_value(alloc, before)?;
     let mut file = MemoryFile::new(alloc, before.0);
     repair(alloc, &mut file)?;
     Ok(format!(in alloc; "{:?}", str::from_utf8(file.bytes())?)?)
 }
 
-/// The last n lines of a file of these bytes, for each n from 0 to one more than there are.
-fn last_lines(alloc: Global, bytes: Value) -> Result<String> {
+/// Returns the last n lines of a file of these bytes, for each n from 0 to one more than there are.
+fn read_last_lines(alloc: Global, bytes: Value) -> Result<String> {
     let bytes: RawBytes = from_redis_value(alloc, bytes)?;
     let log = LineLog::open(alloc, MemoryFile::new(alloc, bytes.0))?;
     let most = log.last_lines(alloc, usize::MAX)?.len();
@@ -356,13 +357,13 @@ fn last_lines(alloc: Global, bytes: Value) -> Result<String> {
         if number > 0 {
             shown.push_str(" | ")?;
         }
-        shown.push_str(&lines_text(alloc, &log.last_lines(alloc, number)?)?)?;
+        shown.push_str(&format_lines(alloc, &log.last_lines(alloc, number)?)?)?;
     }
     Ok(shown)
 }
 
-/// The last two lines of each prefix of these bytes.
-fn lines_of_fronts(alloc: Global, bytes: Value) -> Result<String> {
+/// Returns the last two lines of each prefix of these bytes.
+fn read_lines_of_prefixes(alloc: Global, bytes: Value) -> Result<String> {
     let bytes: RawBytes = from_redis_value(alloc, bytes)?;
     let mut shown = String::new(alloc);
     for len in 0..=bytes.0.len() {
@@ -371,13 +372,13 @@ fn lines_of_fronts(alloc: Global, bytes: Value) -> Result<String> {
         if len > 0 {
             shown.push_str(" | ")?;
         }
-        shown.push_str(&lines_text(alloc, &log.last_lines(alloc, 2)?)?)?;
+        shown.push_str(&format_lines(alloc, &log.last_lines(alloc, 2)?)?)?;
     }
     Ok(shown)
 }
 
-/// The lines, with a space between two.
-fn lines_text(alloc: Global, lines: &[Vec<u8>]) -> Result<String> {
+/// Returns the lines, with a space between each two.
+fn format_lines(alloc: Global, lines: &[Vec<u8>]) -> Result<String> {
     let mut shown = String::new(alloc);
     for line in lines {
         if !shown.is_empty() {
@@ -450,9 +451,9 @@ impl LogFile for Small {
     }
 }
 
-/// The result of committing each batch of lines to a log over a file with room for ten bytes; then the file, and its
-/// count of syncs. A batch takes one write and one sync; after a write that failed, the file is cut back first.
-fn commits(alloc: Global, batches: Value) -> Result<String> {
+/// Commits each batch of lines to a log over a file with room for ten bytes. Returns each result, then the file and
+/// its count of syncs. A batch takes one write and one sync. After a write that failed, the file is cut back first.
+fn commit_batches(alloc: Global, batches: Value) -> Result<String> {
     let batches: Vec<Vec<RawBytes>> = from_redis_value(alloc, batches)?;
     let file = Small {
         bytes: b"old\nto".to_vec(alloc)?,
@@ -481,9 +482,9 @@ fn commit<D: LogFile + Drop>(log: &mut LineLog<D>, batch: &[RawBytes]) -> Result
     }
 }
 
-/// A file that writes to a buffer, which a sync writes to the disk. It records what a crash at each moment
-/// could have left: each prefix of the bytes of a write; and their second half after zeros, if the halves are
-/// written in the other order.
+/// A file that writes to a buffer, which a sync writes to the disk. It records what a crash at each moment could
+/// have left of a write. That is each prefix of its bytes. It is also their second half after zeros, if the halves
+/// are written in the other order.
 #[derive(Drop)]
 struct Buffered {
     alloc: Global,
@@ -563,9 +564,9 @@ impl LogFile for Buffered {
     }
 }
 
-/// Counts the crashes that can happen while batches are committed, and those that lose a line: the file that
-/// is left, once opened again, no longer has a line that was on the disk.
-fn crashes(alloc: Global, batches: Value) -> Result<String> {
+/// Counts the crashes that can happen while batches are committed, and those that lose a line. A crash loses a line
+/// if the file that is left, once opened again, no longer has a line that was on the disk.
+fn count_crashes(alloc: Global, batches: Value) -> Result<String> {
     let batches: Vec<Vec<RawBytes>> = from_redis_value(alloc, batches)?;
     let file = Buffered {
         alloc,
@@ -592,12 +593,12 @@ fn crashes(alloc: Global, batches: Value) -> Result<String> {
     Ok(format!(in alloc; "{} crashes, {lost} lost a line", file.crashes.len())?)
 }
 
-/// The result of committing each batch of lines to a log over a torn file, if the sync with a given number
-/// fails, counting that of the opening as the first; then the file after two crashes.
+/// Commits each batch of lines to a log over a torn file. Returns each result, then the file after two crashes. The
+/// sync with the number `failing` fails; the first one is that of the opening.
 ///
-/// The first crash leaves these bytes in place of those that were not synced. The second happens while the
+/// The first crash leaves the bytes `behind` in place of those that were not synced. The second happens while the
 /// file is opened again, and leaves `uncut` of the bytes that were cut off. Then it is opened once more.
-fn tears(alloc: Global, case: Value) -> Result<String> {
+fn commit_to_torn_file(alloc: Global, case: Value) -> Result<String> {
     type Case = (Vec<Vec<RawBytes>>, (usize, usize), RawBytes);
     let (batches, (failing, uncut), behind): Case = from_redis_value(alloc, case)?;
     let mut file = TornFile::new(alloc, Vec::new(alloc));
@@ -619,9 +620,9 @@ fn tears(alloc: Global, case: Value) -> Result<String> {
     Ok(format!(in alloc; "{said}{:?}", str::from_utf8(file.on_disk())?)?)
 }
 
-/// A worker's file of these bytes, after it was opened and these lines were committed, by the calls that bind a
-/// log to the model of the files.
-fn files(alloc: Global, case: Value) -> Result<String> {
+/// Opens a worker's file of these bytes, commits these lines to it, and returns its content. The calls are those of
+/// `model_workers::files::log`, which bind a log to the model of the files.
+fn commit_to_file(alloc: Global, case: Value) -> Result<String> {
     let (before, lines): (RawBytes, Vec<RawBytes>) = from_redis_value(alloc, case)?;
     let mut log = log::open(alloc, MemoryFile::new(alloc, before.0))?;
     for line in &lines {
@@ -631,16 +632,16 @@ fn files(alloc: Global, case: Value) -> Result<String> {
     Ok(format!(in alloc; "{:?}", str::from_utf8(log.into_file().bytes())?)?)
 }
 
-/// The bytes of a text as they are escaped in a line.
-fn escapes(alloc: Global, text: Value) -> Result<String> {
+/// Returns the bytes of a text as they are escaped in a line.
+fn escape_text(alloc: Global, text: Value) -> Result<String> {
     let text: RawBytes = from_redis_value(alloc, text)?;
     let mut line = Vec::new(alloc);
     push_escaped(&mut line, &text.0)?;
     Ok(format!(in alloc; "{line:?}")?)
 }
 
-/// The entry of a line: its id, and each name and value.
-fn line(alloc: Global, line: Value) -> Result<String> {
+/// Returns the entry of a line: its id, and each name and value; or `none`.
+fn read_entry(alloc: Global, line: Value) -> Result<String> {
     let line: RawBytes = from_redis_value(alloc, line)?;
     let Some(entry) = entry_in(alloc, &line.0)? else {
         return Ok(String::from_str(alloc, "none")?);
@@ -655,8 +656,8 @@ fn line(alloc: Global, line: Value) -> Result<String> {
 
 // How the outcome of a case is printed.
 
-/// The arguments that a value writes, with a space between two.
-fn line_of<T: ToRedisArgs>(alloc: Global, value: &T) -> Result<String> {
+/// Returns the arguments that a value writes, with a space between each two.
+fn format_arguments<T: ToRedisArgs>(alloc: Global, value: &T) -> Result<String> {
     let mut line = String::new(alloc);
     for argument in &value.to_redis_args(alloc)? {
         if !line.is_empty() {
@@ -667,8 +668,8 @@ fn line_of<T: ToRedisArgs>(alloc: Global, value: &T) -> Result<String> {
     Ok(line)
 }
 
-/// A record as `Debug` prints it, or why there is none. Passes on the error that memory ran out.
-fn reading_text<T: Debug + Drop>(alloc: Global, read: Result<T, ParsingError>) -> Result<String> {
+/// Returns a record as `Debug` prints it, or why there is none. Passes on the error that memory ran out.
+fn format_result<T: Debug + Drop>(alloc: Global, read: Result<T, ParsingError>) -> Result<String> {
     match read {
         Ok(record) => Ok(format!(in alloc; "{record:?}")?),
         Err(ParsingError::Memory) => Err(AllocError.into()),

@@ -29,56 +29,59 @@ use std::alloc::{AllocError, Global};
 use std::num::NonZeroU16;
 use std::str;
 
-/// The outcome of a case, if its kind is one of these.
-pub fn outcome(alloc: Global, kind: &str, input: &str) -> Result<Option<String>>
+/// Runs a case of this module. Returns its outcome, or `None` if its kind is another.
+pub fn run_case(alloc: Global, kind: &str, input: &str) -> Result<Option<String>>
     ensures { IfOk result (λ o. IsSome o → IsTrue (is_cluster kind.now)) }
 {
     match kind {
         "slot" | "slot-of-hex" | "error" | "partition" | "partition-name" | "slots" | "shards" => {
-            Ok(Some(outcome_of(alloc, kind, input)?))
+            Ok(Some(run_kind(alloc, kind, input)?))
         }
         _ => Ok(None),
     }
 }
 
-/// The outcome of a case of one of these kinds.
-fn outcome_of(alloc: Global, kind: &str, input: &str) -> Result<String> {
+/// Returns the outcome of a case of one of these kinds.
+fn run_kind(alloc: Global, kind: &str, input: &str) -> Result<String> {
     match kind {
-        "slot" => slot_text(alloc, input.as_bytes()),
-        "slot-of-hex" => slot_of_hex(alloc, input),
-        "error" => error_text(alloc, input),
-        "partition" => partition_text(alloc, input),
-        "partition-name" => partition_name_text(alloc, input),
-        "slots" => topology_of(alloc, Asked::Slots, input),
-        _ => topology_of(alloc, Asked::Shards, input),
+        "slot" => format_slot(alloc, input.as_bytes()),
+        "slot-of-hex" => format_slot_of_hex(alloc, input),
+        "error" => format_error(alloc, input),
+        "partition" => format_partition(alloc, input),
+        "partition-name" => format_partition_name(alloc, input),
+        "slots" => read_topology(alloc, Asked::Slots, input),
+        _ => read_topology(alloc, Asked::Shards, input),
     }
 }
 
-fn slot_text(alloc: Global, key: &[u8]) -> Result<String> {
+/// Returns the slot of a key.
+fn format_slot(alloc: Global, key: &[u8]) -> Result<String> {
     let slot = key_slot(key);
     Ok(format!(in alloc; "{slot}")?)
 }
 
-/// The slot of a key in hex digits.
-fn slot_of_hex(alloc: Global, input: &str) -> Result<String> {
+/// Returns the slot of a key in hex digits.
+fn format_slot_of_hex(alloc: Global, input: &str) -> Result<String> {
     match hex::decode(alloc, input) {
-        Ok(key) => slot_text(alloc, &key),
+        Ok(key) => format_slot(alloc, &key),
         Err(FromHexError::OutOfMemory) => Err(AllocError.into()),
         Err(_error) => Ok(String::from_str(alloc, "no hex digits")?),
     }
 }
 
-/// The fields of an error, and the next step after it.
-fn error_text(alloc: Global, text: &str) -> Result<String> {
+/// Returns the fields of an error, and the next step after it.
+fn format_error(alloc: Global, text: &str) -> Result<String> {
     let Some(error) = cluster_error(text.as_bytes()) else {
         return Ok(String::from_str(alloc, "none of these")?);
     };
-    let step = step_word(error.next_step());
+    let step = to_word(error.next_step());
     match error {
         ClusterError::Moved { slot, host, port } => {
-            print_place(alloc, "moved", slot, host, port, step)
+            format_redirection(alloc, "moved", slot, host, port, step)
         }
-        ClusterError::Ask { slot, host, port } => print_place(alloc, "ask", slot, host, port, step),
+        ClusterError::Ask { slot, host, port } => format_redirection(
+            alloc, "ask", slot, host, port, step,
+        ),
         ClusterError::TryAgain => Ok(format!(in alloc; "try again: {step}")?),
         ClusterError::ClusterDown => Ok(format!(in alloc; "cluster down: {step}")?),
         ClusterError::Loading => Ok(format!(in alloc; "loading: {step}")?),
@@ -88,7 +91,8 @@ fn error_text(alloc: Global, text: &str) -> Result<String> {
     }
 }
 
-fn print_place(
+/// Returns the fields of a redirection, MOVED or ASK, and the next step after it.
+fn format_redirection(
     alloc: Global,
     word: &str,
     slot: u16,
@@ -100,7 +104,8 @@ fn print_place(
     Ok(format!(in alloc; "{word} slot {slot} host {host} port {port}: {step}")?)
 }
 
-fn step_word(step: NextStep) -> &'static str {
+/// Returns a step in words.
+fn to_word(step: NextStep) -> &'static str {
     match step {
         NextStep::Connect => "connect",
         NextStep::AskOnce => "ask once",
@@ -109,16 +114,16 @@ fn step_word(step: NextStep) -> &'static str {
     }
 }
 
-/// Parses the number before the first blank of a text, and returns it and the rest.
-fn number_and_rest(input: &str) -> Option<(u16, &str)> {
+/// Parses the number before the first space of a text. Returns it and the rest.
+fn split_number(input: &str) -> Option<(u16, &str)> {
     let (number, rest) = input.split_once(' ')?;
     let number = number.parse::<u16>().ok()?;
     Some((number, rest))
 }
 
-/// The partition of a key; the input is the number of partitions, a blank and the key.
-fn partition_text(alloc: Global, input: &str) -> Result<String> {
-    match number_and_rest(input) {
+/// Returns the partition of a key. The input is the number of partitions, a space and the key.
+fn format_partition(alloc: Global, input: &str) -> Result<String> {
+    match split_number(input) {
         Some((number, key)) => match NonZeroU16::new(number) {
             Some(number) => {
                 let partition = partition_of(key.as_bytes(), number);
@@ -130,9 +135,10 @@ fn partition_text(alloc: Global, input: &str) -> Result<String> {
     }
 }
 
-/// The key of a partition of a stream, and its slot.
-fn partition_name_text(alloc: Global, input: &str) -> Result<String> {
-    match number_and_rest(input) {
+/// Returns the key of a partition of a stream, and its slot. The input is the partition, a space and the key of the
+/// stream.
+fn format_partition_name(alloc: Global, input: &str) -> Result<String> {
+    match split_number(input) {
         Some((partition, name)) => {
             let mut key = Vec::new(alloc);
             push_partition_name(&mut key, name.as_bytes(), partition)?;
@@ -151,15 +157,16 @@ enum Asked {
     Shards,
 }
 
-/// The master of a slot, and the shards, from a reply in hex digits; the input is the slot, a blank and the digits.
-fn topology_of(alloc: Global, asked: Asked, input: &str) -> Result<String> {
+/// Returns the master of a slot, and the shards, from a reply in hex digits. The input is the slot, a space and the
+/// digits.
+fn read_topology(alloc: Global, asked: Asked, input: &str) -> Result<String> {
     let Some((slot, digits)) = input.split_once(' ') else {
         return Ok(String::from_str(alloc, "no slot")?);
     };
     let Ok(slot) = slot.parse::<u16>() else {
         return Ok(String::from_str(alloc, "no slot")?);
     };
-    let Some(value) = value_of_hex(alloc, digits)? else {
+    let Some(value) = decode_hex(alloc, digits)? else {
         return Ok(String::from_str(alloc, "no value")?);
     };
     let topology = match asked {
@@ -167,14 +174,15 @@ fn topology_of(alloc: Global, asked: Asked, input: &str) -> Result<String> {
         Asked::Shards => Topology::from_shards(alloc, value),
     };
     match topology {
-        Ok(topology) => topology_text(alloc, &topology, slot),
+        Ok(topology) => format_topology(alloc, &topology, slot),
         Err(TopologyError::Memory) => Err(AllocError.into()),
         Err(error) => Ok(format!(in alloc; "{error}")?),
     }
 }
 
-/// Decodes a reply in hex digits as a value.
-fn value_of_hex(alloc: Global, digits: &str) -> Result<Option<Value>> {
+/// Decodes a reply in hex digits as a value. Returns `None` for other digits, for a reply that ends early, and for
+/// one that is not a `Reply::Value`.
+fn decode_hex(alloc: Global, digits: &str) -> Result<Option<Value>> {
     let bytes = match hex::decode(alloc, digits) {
         Ok(bytes) => bytes,
         Err(FromHexError::OutOfMemory) => return Err(AllocError.into()),
@@ -189,10 +197,10 @@ fn value_of_hex(alloc: Global, digits: &str) -> Result<Option<Value>> {
     }
 }
 
-/// The master of the slot, and the shards, as text.
-fn topology_text(alloc: Global, topology: &Topology, slot: u16) -> Result<String> {
+/// Returns the master of the slot, and the shards, as text.
+fn format_topology(alloc: Global, topology: &Topology, slot: u16) -> Result<String> {
     let mut text = match topology.master_of(slot) {
-        Some(node) => place_text(alloc, node)?,
+        Some(node) => format_node(alloc, node)?,
         None => String::from_str(alloc, "none")?,
     };
     for shard in &topology.shards {
@@ -213,13 +221,13 @@ fn push_shard(alloc: Global, text: &mut String, shard: &Shard) -> Result<()> {
             Role::Master => " master ",
             Role::Replica => " replica ",
         })?;
-        text.push_str(place_text(alloc, node)?.as_str())?;
+        text.push_str(format_node(alloc, node)?.as_str())?;
     }
     Ok(())
 }
 
-/// The host and the port of a node.
-fn place_text(alloc: Global, node: &Node) -> Result<String> {
+/// Returns the host and the port of a node.
+fn format_node(alloc: Global, node: &Node) -> Result<String> {
     let host = node.host.as_str();
     let port = node.port;
     Ok(format!(in alloc; "{host}:{port}")?)

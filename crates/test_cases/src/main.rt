@@ -10,8 +10,7 @@
 //! ```
 //!
 //! The kinds are those of the modules `replies`, `readings`, `notation`, `wire`, `refs`, `cluster`, `sockets` and
-//! `callers`.
-//! Another implementation can be compared line by line.
+//! `callers`. Another implementation can be compared line by line.
 //!
 //! It exits with 0, or with 2 if memory ran out, a line of `callers` is not a case, or standard input or output failed.
 #![tactic(auto)]
@@ -38,7 +37,7 @@ use std::io::{BufRead, BufReader, BufWriter, Write};
 use std::process::ExitCode;
 use test_notation::{NotationError, PrintedForm, read_value};
 
-/// Memory ran out, or standard input or output failed.
+/// The exit status if memory ran out, a line of `callers` is not a case, or standard input or output failed.
 const FAILED: u8 = 2;
 
 /// The outcome of bytes that end before their reply does.
@@ -59,9 +58,9 @@ fn print_outcomes<R: Input + Print + AllocGlobal>(rt: &R) -> Result<()> {
         let line = line?;
         let (kind, rest) = split_at_tab(&line);
         let (input, _) = split_at_tab(rest);
-        let text = outcome(alloc, kind, input)?;
+        let text = run_case(alloc, kind, input)?;
         write!(output, "{kind}\t{input}\t")?;
-        output.write_all(&plain_line::escaped(alloc, text.as_bytes())?)?;
+        output.write_all(&plain_line::escape_text(alloc, text.as_bytes())?)?;
         output.write_all(b"\n")?;
     }
     output.flush()?;
@@ -79,44 +78,44 @@ fn split_at_tab(line: &str) -> (&str, &str)
     }
 }
 
-/// The outcome of a case, from the first module that has its kind.
-fn outcome(alloc: Global, kind: &str, input: &str) -> Result<String> {
-    if let Some(text) = outcome_of_bytes(alloc, kind, input)? {
+/// Runs a case in the first module that has its kind. Returns its outcome.
+fn run_case(alloc: Global, kind: &str, input: &str) -> Result<String> {
+    if let Some(text) = run_case_of_bytes(alloc, kind, input)? {
         return Ok(text);
     }
-    if let Some(text) = replies::outcome(alloc, kind, input)? {
+    if let Some(text) = replies::run_case(alloc, kind, input)? {
         return Ok(text);
     }
-    if let Some(text) = readings::outcome(alloc, kind, input)? {
+    if let Some(text) = readings::run_case(alloc, kind, input)? {
         return Ok(text);
     }
-    if let Some(text) = notation::outcome(alloc, kind, input)? {
+    if let Some(text) = notation::run_case(alloc, kind, input)? {
         return Ok(text);
     }
-    if let Some(text) = cluster::outcome(alloc, kind, input)? {
+    if let Some(text) = cluster::run_case(alloc, kind, input)? {
         return Ok(text);
     }
-    if let Some(text) = sockets::outcome(alloc, kind, input)? {
+    if let Some(text) = sockets::run_case(alloc, kind, input)? {
         return Ok(text);
     }
-    match callers::outcome(alloc, kind, input)? {
+    match callers::run_case(alloc, kind, input)? {
         Some(text) => Ok(text),
         None => Ok(String::from_str(alloc, "no such kind")?),
     }
 }
 
-/// The outcome of a case whose input is escaped bytes, if its kind has such an input.
-fn outcome_of_bytes(alloc: Global, kind: &str, input: &str) -> Result<Option<String>, AllocError> {
-    match wire::outcome(alloc, kind, input)? {
+/// Runs a case whose input is escaped bytes. Returns its outcome, or `None` if its kind has another input.
+fn run_case_of_bytes(alloc: Global, kind: &str, input: &str) -> Result<Option<String>, AllocError> {
+    match wire::run_case(alloc, kind, input)? {
         Some(text) => Ok(Some(text)),
-        None => refs::outcome(alloc, kind, input),
+        None => refs::run_case(alloc, kind, input),
     }
 }
 
 // Shared by several modules: outcomes of values, of refusals, and of two calls on one value.
 
-/// Parses a text as a value. A text that is not a value has an outcome instead.
-fn value_of(alloc: Global, input: &str) -> Result<Result<Value, String>, AllocError> {
+/// Parses a text as a value. The inner `Err` is the outcome of a text that is not a value.
+fn parse_value(alloc: Global, input: &str) -> Result<Result<Value, String>, AllocError> {
     match read_value(alloc, input) {
         Ok(value) => Ok(Ok(value)),
         Err(NotationError::Memory) => Err(AllocError),
@@ -124,9 +123,9 @@ fn value_of(alloc: Global, input: &str) -> Result<Result<Value, String>, AllocEr
     }
 }
 
-/// A refusal: its number, and its `Debug` and `Display` forms. The error that memory ran out is no outcome,
-/// and is passed on.
-fn refusal_text(alloc: Global, error: &ParsingError) -> Result<String, AllocError> {
+/// Returns the number of a refusal, and its `Debug` and `Display` texts. The error that memory ran out is no
+/// outcome, and is passed on.
+fn format_refusal(alloc: Global, error: &ParsingError) -> Result<String, AllocError> {
     match error {
         ParsingError::Memory => Err(AllocError),
         _ => {
@@ -137,8 +136,9 @@ fn refusal_text(alloc: Global, error: &ParsingError) -> Result<String, AllocErro
     }
 }
 
-/// The text of both calls, or both texts if they differ, and whether the borrowed value was changed.
-fn text_of_both(
+/// Returns the text that both calls gave, or both texts if they differ. Adds a remark if the borrowed value was
+/// changed.
+fn format_both(
     alloc: Global,
     owned: String,
     lent: &str,
@@ -154,8 +154,9 @@ fn text_of_both(
     Ok(text)
 }
 
-/// The fault that refuses bytes. Passes on the error that memory ran out.
-fn fault_text(alloc: Global, error: WireError) -> Result<String, AllocError> {
+/// Returns the fault that refuses bytes, as `Debug` and as `Display` prints it. Passes on the error that memory ran
+/// out.
+fn format_fault(alloc: Global, error: WireError) -> Result<String, AllocError> {
     match error {
         WireError::Memory => Err(AllocError),
         WireError::Fault(fault) => format!(in alloc; "refused {fault:?}: {fault}"),
@@ -164,13 +165,13 @@ fn fault_text(alloc: Global, error: WireError) -> Result<String, AllocError> {
 
 // Bytes as readable text.
 
-/// Decodes the escapes of a text: `\r`, `\n`, `\t`, `\\` and `\xNN` are one byte each, and every other
-/// byte is itself. `None` if a backslash begins none of these.
-fn bytes_of(alloc: Global, text: &str) -> Result<Option<Vec<u8>>, AllocError> {
+/// Decodes the escapes of a text: `\r`, `\n`, `\t`, `\\` and `\xNN` are one byte each, and every other byte is
+/// itself. Returns `None` if a backslash begins none of these.
+fn decode_escapes(alloc: Global, text: &str) -> Result<Option<Vec<u8>>, AllocError> {
     let mut bytes = Vec::with_capacity(alloc, text.len())?;
     let mut rest = text.as_bytes();
     for _ in 0..text.len() {
-        let Some((byte, after)) = byte_in(rest) else {
+        let Some((byte, after)) = decode_first_byte(rest) else {
             break;
         };
         bytes.push(byte)?;
@@ -179,34 +180,34 @@ fn bytes_of(alloc: Global, text: &str) -> Result<Option<Vec<u8>>, AllocError> {
     Ok(if rest.is_empty() { Some(bytes) } else { None })
 }
 
-/// The first byte of a text, with its escape decoded, and the rest.
-fn byte_in(text: &[u8]) -> Option<(u8, &[u8])> {
+/// Returns the first byte of a text, with its escape decoded, and the rest.
+fn decode_first_byte(text: &[u8]) -> Option<(u8, &[u8])> {
     match text {
-        [b'\\', rest @ ..] => escape_in(rest),
+        [b'\\', rest @ ..] => decode_escape(rest),
         [byte, rest @ ..] => Some((*byte, rest)),
         [] => None,
     }
 }
 
-/// The byte of the escape after a backslash, and the rest.
-fn escape_in(text: &[u8]) -> Option<(u8, &[u8])> {
+/// Returns the byte of the escape after a backslash, and the rest.
+fn decode_escape(text: &[u8]) -> Option<(u8, &[u8])> {
     match text {
         [b'r', rest @ ..] => Some((b'\r', rest)),
         [b'n', rest @ ..] => Some((b'\n', rest)),
         [b't', rest @ ..] => Some((b'\t', rest)),
         [b'\\', rest @ ..] => Some((b'\\', rest)),
-        [b'x', high, low, rest @ ..] => Some((byte_of(*high, *low)?, rest)),
+        [b'x', high, low, rest @ ..] => Some((to_byte(*high, *low)?, rest)),
         _ => None,
     }
 }
 
-/// The byte of two hexadecimal digits.
-fn byte_of(high: u8, low: u8) -> Option<u8> {
-    Some(digit_of(high)? * 16 + digit_of(low)?)
+/// Returns the byte of two hexadecimal digits.
+fn to_byte(high: u8, low: u8) -> Option<u8> {
+    Some(to_digit(high)? * 16 + to_digit(low)?)
 }
 
-/// The value of a hexadecimal digit.
-fn digit_of(digit: u8) -> Option<u8>
+/// Returns the value of a hexadecimal digit. A letter is in lower case.
+fn to_digit(digit: u8) -> Option<u8>
     ensures { IfSome result (λ value. value < 16) }
 {
     match digit {

@@ -9,32 +9,32 @@
 ghost use Rattle.test_cases.specs.Kinds.{is_notation};
 ghost use Rattle.std.specs.Prelude.{IfOk, IsSome, IsTrue};
 
-use crate::value_of;
+use crate::parse_value;
 use redis_resp::{is_fields, is_nil, is_text, is_usize};
 use std::alloc::{AllocError, Global};
 
-/// The outcome of a case of this module, or `None` if its kind is another.
-pub fn outcome(alloc: Global, kind: &str, input: &str) -> Result<Option<String>, AllocError>
+/// Runs a case of this module. Returns its outcome, or `None` if its kind is another.
+pub fn run_case(alloc: Global, kind: &str, input: &str) -> Result<Option<String>, AllocError>
     ensures { IfOk result (λ o. IsSome o → IsTrue (is_notation kind.now)) }
 {
     match kind {
-        "notation" => value_text(alloc, input),
-        "reads_as" => told_text(alloc, input),
+        "notation" => format_value(alloc, input),
+        "reads_as" => format_checks(alloc, input),
         _ => Ok(None),
     }
 }
 
-/// The value as `Debug` prints it.
-fn value_text(alloc: Global, input: &str) -> Result<Option<String>, AllocError> {
-    match value_of(alloc, input)? {
+/// Returns the value as `Debug` prints it.
+fn format_value(alloc: Global, input: &str) -> Result<Option<String>, AllocError> {
+    match parse_value(alloc, input)? {
         Ok(value) => Ok(Some(format!(in alloc; "{value:?}")?)),
         Err(text) => Ok(Some(text)),
     }
 }
 
-/// The checks of a value that take no memory.
-fn told_text(alloc: Global, input: &str) -> Result<Option<String>, AllocError> {
-    match value_of(alloc, input)? {
+/// Returns the results of `is_text`, `is_usize`, `is_fields` and `is_nil` for a value. They allocate nothing.
+fn format_checks(alloc: Global, input: &str) -> Result<Option<String>, AllocError> {
+    match parse_value(alloc, input)? {
         Ok(value) => Ok(Some(format!(in alloc;
             "{:?}",
             (

@@ -4,8 +4,8 @@ ghost use Rattle.test_cases.specs.Line.{digit_code, escape};
 
 use std::alloc::{AllocError, Global};
 
-/// The bytes with each control character written as `\n`, `\t` or `\xNN`.
-pub fn escaped(alloc: Global, text: &[u8]) -> Result<Vec<u8>, AllocError>
+/// Returns the bytes with each control character written as `\n`, `\t` or `\xNN`.
+pub fn escape_text(alloc: Global, text: &[u8]) -> Result<Vec<u8>, AllocError>
     ensures { IfOk result (λ line. line.items ≡ flat_map escape text.now) }
 {
     let mut line = Vec::with_capacity(alloc, text.len())?;
@@ -15,18 +15,25 @@ pub fn escaped(alloc: Global, text: &[u8]) -> Result<Vec<u8>, AllocError>
     Ok(line)
 }
 
+/// Appends a byte as `escape_text` writes it.
 fn push_escaped(byte: u8, line: &mut Vec<u8>) -> Result<(), AllocError>
     ensures { OnOk result (line.new.items ≡ line.old.items ++ escape byte) }
 {
     match byte {
         b'\n' => line.extend_from_slice(b"\\n"),
         b'\t' => line.extend_from_slice(b"\\t"),
-        0..32 => line.extend_from_slice(&[b'\\', b'x', hex_digit(byte / 16), hex_digit(byte % 16)]),
+        0..32 => line.extend_from_slice(&[
+            b'\\',
+            b'x',
+            to_hex_digit(byte / 16),
+            to_hex_digit(byte % 16),
+        ]),
         _ => line.extend_from_slice(&[byte]),
     }
 }
 
-fn hex_digit(digit: u8) -> u8
+/// Returns the ASCII code of a hexadecimal digit. A letter is in lower case.
+fn to_hex_digit(digit: u8) -> u8
     requires { digit < 16 }
     ensures { result ≡ digit_code digit }
 {

@@ -1,4 +1,4 @@
-//! Plain types, read from values in the notation by both calls.
+//! Plain types, read from values in the notation by both calls: `from_redis_value` and `from_redis_value_ref`.
 //!
 //! A kind is the name of a Rust type, as `u8` or `Vec<String>`. The outcome is the record as `Debug`
 //! prints it, or the refusal.
@@ -13,7 +13,7 @@ ghost use Rattle.test_cases.specs.Kinds.{
 };
 ghost use Rattle.std.specs.Prelude.{IfOk, IsSome, IsTrue};
 
-use crate::{refusal_text, text_of_both, value_of};
+use crate::{format_both, format_refusal, parse_value};
 use indexmap::IndexMap;
 use redis_resp::{
     FromRedisValue, PairList, ParsingError, RawBytes, Value, from_redis_value, from_redis_value_ref,
@@ -22,20 +22,20 @@ use std::alloc::{AllocError, Global};
 use std::collections::{BTreeMap, HashMap};
 use std::fmt::Debug;
 
-/// The outcome of a case of this module, or `None` if its kind is another.
-pub fn outcome(alloc: Global, kind: &str, input: &str) -> Result<Option<String>, AllocError>
+/// Runs a case of this module. Returns its outcome, or `None` if its kind is another.
+pub fn run_case(alloc: Global, kind: &str, input: &str) -> Result<Option<String>, AllocError>
     ensures { IfOk result (λ o. IsSome o → IsTrue (is_reading kind.now)) }
 {
     match kind {
-        "u8" | "u16" | "u32" | "u64" | "usize" | "i32" | "i64" => number(alloc, kind, input),
-        "String" | "RawBytes" | "bool" | "Value" => single(alloc, kind, input),
-        _ if kind.starts_with('(') => tuple(alloc, kind, input),
-        _ => collection(alloc, kind, input),
+        "u8" | "u16" | "u32" | "u64" | "usize" | "i32" | "i64" => read_number(alloc, kind, input),
+        "String" | "RawBytes" | "bool" | "Value" => read_single(alloc, kind, input),
+        _ if kind.starts_with('(') => read_tuple(alloc, kind, input),
+        _ => read_collection(alloc, kind, input),
     }
 }
 
-/// Numbers of each width.
-fn number(alloc: Global, kind: &str, input: &str) -> Result<Option<String>, AllocError>
+/// Reads a value as an integer, if the kind is such a type.
+fn read_number(alloc: Global, kind: &str, input: &str) -> Result<Option<String>, AllocError>
     ensures { IfOk result (λ o. IsSome o → IsTrue (is_number kind.now)) }
 {
     match kind {
@@ -50,8 +50,8 @@ fn number(alloc: Global, kind: &str, input: &str) -> Result<Option<String>, Allo
     }
 }
 
-/// Texts, bytes, booleans and values as they are.
-fn single(alloc: Global, kind: &str, input: &str) -> Result<Option<String>, AllocError>
+/// Reads a value as a text, as bytes, as a boolean or as it is, if the kind is such a type.
+fn read_single(alloc: Global, kind: &str, input: &str) -> Result<Option<String>, AllocError>
     ensures { IfOk result (λ o. IsSome o → IsTrue (is_single kind.now)) }
 {
     match kind {
@@ -63,8 +63,8 @@ fn single(alloc: Global, kind: &str, input: &str) -> Result<Option<String>, Allo
     }
 }
 
-/// Tuples.
-fn tuple(alloc: Global, kind: &str, input: &str) -> Result<Option<String>, AllocError>
+/// Reads a value as a tuple, if the kind is such a type.
+fn read_tuple(alloc: Global, kind: &str, input: &str) -> Result<Option<String>, AllocError>
     ensures { IfOk result (λ o. IsSome o → IsTrue (is_tuple kind.now)) }
 {
     match kind {
@@ -74,12 +74,12 @@ fn tuple(alloc: Global, kind: &str, input: &str) -> Result<Option<String>, Alloc
         "(u64, bool, u8)" => read_both::<(u64, bool, u8)>(alloc, input),
         "(u16, u16, u16)" => read_both::<(u16, u16, u16)>(alloc, input),
         "(i32, Option<u8>, i32)" => read_both::<(i32, Option<u8>, i32)>(alloc, input),
-        _ => tuple_of_four(alloc, kind, input),
+        _ => read_tuple_of_four(alloc, kind, input),
     }
 }
 
-/// Tuples of four members.
-fn tuple_of_four(alloc: Global, kind: &str, input: &str) -> Result<Option<String>, AllocError>
+/// Reads a value as a tuple of four members, if the kind is such a type.
+fn read_tuple_of_four(alloc: Global, kind: &str, input: &str) -> Result<Option<String>, AllocError>
     ensures { IfOk result (λ o. IsSome o → IsTrue (is_tuple_of_four kind.now)) }
 {
     match kind {
@@ -93,8 +93,8 @@ fn tuple_of_four(alloc: Global, kind: &str, input: &str) -> Result<Option<String
     }
 }
 
-/// Lists, options, lists of pairs and tables.
-fn collection(alloc: Global, kind: &str, input: &str) -> Result<Option<String>, AllocError>
+/// Reads a value as a list, an option, a list of pairs or a map, if the kind is such a type.
+fn read_collection(alloc: Global, kind: &str, input: &str) -> Result<Option<String>, AllocError>
     ensures { IfOk result (λ o. IsSome o → IsTrue (is_collection kind.now)) }
 {
     match kind {
@@ -102,12 +102,12 @@ fn collection(alloc: Global, kind: &str, input: &str) -> Result<Option<String>, 
         "Vec<Value>" => read_both::<Vec<Value>>(alloc, input),
         "Option<u32>" => read_both::<Option<u32>>(alloc, input),
         "Option<String>" => read_both::<Option<String>>(alloc, input),
-        _ => table(alloc, kind, input),
+        _ => read_table(alloc, kind, input),
     }
 }
 
-/// Lists of pairs and tables.
-fn table(alloc: Global, kind: &str, input: &str) -> Result<Option<String>, AllocError>
+/// Reads a value as a list of pairs or a map, if the kind is such a type.
+fn read_table(alloc: Global, kind: &str, input: &str) -> Result<Option<String>, AllocError>
     ensures { IfOk result (λ o. IsSome o → IsTrue (is_table kind.now)) }
 {
     match kind {
@@ -119,30 +119,30 @@ fn table(alloc: Global, kind: &str, input: &str) -> Result<Option<String>, Alloc
     }
 }
 
-/// Reads the value by both calls, by value and borrowed.
+/// Reads a value by both calls, and compares their outcomes.
 fn read_both<T: FromRedisValue + Debug>(
     alloc: Global,
     input: &str,
 ) -> Result<Option<String>, AllocError> {
-    let value = match value_of(alloc, input)? {
+    let value = match parse_value(alloc, input)? {
         Ok(value) => value,
         Err(text) => return Ok(Some(text)),
     };
     let before = value.try_clone(alloc)?;
-    let lent = answer_text(alloc, from_redis_value_ref::<T>(alloc, &value))?;
+    let lent = format_result(alloc, from_redis_value_ref::<T>(alloc, &value))?;
     let changed = value != before;
     drop(before);
-    let owned = answer_text(alloc, from_redis_value::<T>(alloc, value))?;
-    Ok(Some(text_of_both(alloc, owned, &lent, changed)?))
+    let owned = format_result(alloc, from_redis_value::<T>(alloc, value))?;
+    Ok(Some(format_both(alloc, owned, &lent, changed)?))
 }
 
-/// The record as `Debug` prints it, or the refusal.
-fn answer_text<T: Debug + Drop>(
+/// Returns the record as `Debug` prints it, or the refusal.
+fn format_result<T: Debug + Drop>(
     alloc: Global,
     answer: Result<T, ParsingError>,
 ) -> Result<String, AllocError> {
     match answer {
         Ok(record) => format!(in alloc; "{record:?}"),
-        Err(error) => refusal_text(alloc, &error),
+        Err(error) => format_refusal(alloc, &error),
     }
 }

@@ -11,13 +11,14 @@
 //! | `ids` | ids with a space between each two: for each one, which of them it is before |
 //!
 //! What is read in place is printed as `Debug` prints it. A reply of another shape is `copied`, `refused`
-//! or `error`, after its length; bytes that are no reply are `incomplete` or refused by a fault. If the record
-//! of what is read in place is not that of the copying path, the outcome reports it; also if neither has a
-//! record, since a name of a field is not a text.
+//! or `error`, after its length; bytes that are no reply are `incomplete` or refused by a fault.
+//!
+//! The copying path is `decode` and then `from_reply`. The outcome reports if its record is not that of what is
+//! read in place. It also reports if neither has a record, since a name of a field is not a text.
 ghost use Rattle.test_cases.specs.Kinds.{is_refs};
 ghost use Rattle.std.specs.Prelude.{◌≡◌, IfOk, IsSome, IsTrue};
 
-use crate::{INCOMPLETE, bytes_of, fault_text};
+use crate::{INCOMPLETE, decode_escapes, format_fault};
 use bstr::BStr;
 use redis_resp::{FromRedisValue, ParsingError};
 use redis_wire::{Decoded, Limits, Reply, ReplyError, WireError, decode, from_reply};
@@ -31,20 +32,20 @@ use stream_in_place::{
     read_any_autoclaim, read_any_justid, read_any_range, read_any_streams,
 };
 
-/// The outcome of a case of this module, or `None` if its kind is another.
-pub fn outcome(alloc: Global, kind: &str, input: &str) -> Result<Option<String>, AllocError>
+/// Runs a case of this module. Returns its outcome, or `None` if its kind is another.
+pub fn run_case(alloc: Global, kind: &str, input: &str) -> Result<Option<String>, AllocError>
     ensures { IfOk result (λ o. IsSome o → IsTrue (is_refs kind.now)) }
 {
     if !is_kind(kind) {
         return Ok(None);
     }
-    match bytes_of(alloc, input)? {
-        Some(bytes) => Ok(Some(outcome_of(alloc, kind, &bytes)?)),
+    match decode_escapes(alloc, input)? {
+        Some(bytes) => Ok(Some(run_kind(alloc, kind, &bytes)?)),
         None => Ok(Some(String::from_str(alloc, "not the text of bytes")?)),
     }
 }
 
-/// Whether a kind is one of this module.
+/// Returns whether a kind is one of this module.
 fn is_kind(kind: &str) -> bool
     ensures { result ≡ is_refs kind.now }
 {
@@ -54,45 +55,45 @@ fn is_kind(kind: &str) -> bool
     )
 }
 
-/// The outcome of bytes.
-fn outcome_of(alloc: Global, kind: &str, bytes: &[u8]) -> Result<String, AllocError> {
+/// Returns the outcome of bytes, for a kind of this module.
+fn run_kind(alloc: Global, kind: &str, bytes: &[u8]) -> Result<String, AllocError> {
     let mut tape = EntryTape::new(alloc);
     match kind {
-        "refs-range" => of_range(alloc, &mut tape, bytes),
-        "refs-read" => of_streams(alloc, &mut tape, bytes),
-        "refs-claim" => of_claim(alloc, &mut tape, bytes),
-        "refs-justid" => of_justid(alloc, &mut tape, bytes),
-        "refs-fields" => fields_text(alloc, &mut tape, bytes),
-        "id" => parts_text(alloc, bytes),
-        _ => marks_text(alloc, bytes),
+        "refs-range" => format_range(alloc, &mut tape, bytes),
+        "refs-read" => format_streams(alloc, &mut tape, bytes),
+        "refs-claim" => format_claim(alloc, &mut tape, bytes),
+        "refs-justid" => format_justid(alloc, &mut tape, bytes),
+        "refs-fields" => format_fields(alloc, &mut tape, bytes),
+        "id" => format_parts(alloc, bytes),
+        _ => format_marks(alloc, bytes),
     }
 }
 
 // The results of reading a reply in place.
 
-/// The outcome of a range.
-fn of_range(alloc: Global, tape: &mut EntryTape, bytes: &[u8]) -> Result<String, AllocError> {
+/// Returns the outcome of a reply of XRANGE, XREVRANGE or XCLAIM.
+fn format_range(alloc: Global, tape: &mut EntryTape, bytes: &[u8]) -> Result<String, AllocError> {
     match read_any_range(alloc, tape, bytes, Limits::default()) {
         Ok(RangeOutcome::InPlace(found)) => {
-            let record = record_of(found.to_owned(alloc))?;
-            let beside = match (record, copied_record(alloc, bytes, found.len)?) {
-                (Some(record), Copied::Record(copied)) => beside_of(is_same_range(
+            let record = to_record(found.to_owned(alloc))?;
+            let beside = match (record, copy_record(alloc, bytes, found.len)?) {
+                (Some(record), Copied::Record(copied)) => to_beside(is_same_range(
                     &record, &copied,
                 )),
                 (None, Copied::Refused) => Beside::BothRefused,
                 _ => Beside::Differs,
             };
-            in_place(alloc, &found, beside)
+            format_in_place(alloc, &found, beside)
         }
-        Ok(RangeOutcome::Copied { reply, len }) => copied_text(alloc, len, reply),
+        Ok(RangeOutcome::Copied { reply, len }) => format_copied(alloc, len, reply),
         Ok(RangeOutcome::Incomplete) => String::from_str(alloc, INCOMPLETE),
-        Err(error) => fault_text(alloc, error),
+        Err(error) => format_fault(alloc, error),
     }
 }
 
-/// The outcome of a read, and which form it has.
-fn of_streams(alloc: Global, tape: &mut EntryTape, bytes: &[u8]) -> Result<String, AllocError> {
-    let mut text = of_either_form(alloc, tape, bytes)?;
+/// Returns the outcome of a reply of XREAD or XREADGROUP, and which form it has.
+fn format_streams(alloc: Global, tape: &mut EntryTape, bytes: &[u8]) -> Result<String, AllocError> {
+    let mut text = format_either_form(alloc, tape, bytes)?;
     if tape.read_streams(bytes, Limits::default())?.is_some() {
         text.push_str(", the standard form")?;
     }
@@ -105,63 +106,71 @@ fn of_streams(alloc: Global, tape: &mut EntryTape, bytes: &[u8]) -> Result<Strin
     Ok(text)
 }
 
-/// The outcome of a read in either form.
-fn of_either_form(alloc: Global, tape: &mut EntryTape, bytes: &[u8]) -> Result<String, AllocError> {
+/// Returns the outcome of a reply of XREAD or XREADGROUP, in either form.
+fn format_either_form(
+    alloc: Global,
+    tape: &mut EntryTape,
+    bytes: &[u8],
+) -> Result<String, AllocError> {
     match read_any_streams(alloc, tape, bytes, Limits::default()) {
         Ok(ReadOutcome::InPlace(found)) => {
-            let record = record_of(found.to_owned(alloc))?;
-            let beside = match (record, copied_record(alloc, bytes, found.len)?) {
-                (Some(record), Copied::Record(copied)) => beside_of(is_same_read(&record, &copied)),
+            let record = to_record(found.to_owned(alloc))?;
+            let beside = match (record, copy_record(alloc, bytes, found.len)?) {
+                (Some(record), Copied::Record(copied)) => to_beside(is_same_read(&record, &copied)),
                 (None, Copied::Refused) => Beside::BothRefused,
                 _ => Beside::Differs,
             };
-            in_place(alloc, &found, beside)
+            format_in_place(alloc, &found, beside)
         }
-        Ok(ReadOutcome::Copied { reply, len }) => copied_text(alloc, len, reply),
+        Ok(ReadOutcome::Copied { reply, len }) => format_copied(alloc, len, reply),
         Ok(ReadOutcome::Incomplete) => String::from_str(alloc, INCOMPLETE),
-        Err(error) => fault_text(alloc, error),
+        Err(error) => format_fault(alloc, error),
     }
 }
 
-/// The outcome of an automatic claim.
-fn of_claim(alloc: Global, tape: &mut EntryTape, bytes: &[u8]) -> Result<String, AllocError> {
+/// Returns the outcome of a reply of XAUTOCLAIM.
+fn format_claim(alloc: Global, tape: &mut EntryTape, bytes: &[u8]) -> Result<String, AllocError> {
     match read_any_autoclaim(alloc, tape, bytes, Limits::default()) {
         Ok(AutoClaimOutcome::InPlace(found)) => {
-            let record = record_of(found.to_owned(alloc))?;
-            let beside = match (record, copied_record(alloc, bytes, found.len)?) {
-                (Some(record), Copied::Record(copied)) => beside_of(is_same_claim(
+            let record = to_record(found.to_owned(alloc))?;
+            let beside = match (record, copy_record(alloc, bytes, found.len)?) {
+                (Some(record), Copied::Record(copied)) => to_beside(is_same_claim(
                     &record, &copied,
                 )),
                 (None, Copied::Refused) => Beside::BothRefused,
                 _ => Beside::Differs,
             };
-            in_place(alloc, &found, beside)
+            format_in_place(alloc, &found, beside)
         }
-        Ok(AutoClaimOutcome::Copied { reply, len }) => copied_text(alloc, len, reply),
+        Ok(AutoClaimOutcome::Copied { reply, len }) => format_copied(alloc, len, reply),
         Ok(AutoClaimOutcome::Incomplete) => String::from_str(alloc, INCOMPLETE),
-        Err(error) => fault_text(alloc, error),
+        Err(error) => format_fault(alloc, error),
     }
 }
 
-/// The outcome of an automatic claim of ids alone.
-fn of_justid(alloc: Global, tape: &mut EntryTape, bytes: &[u8]) -> Result<String, AllocError> {
+/// Returns the outcome of a reply of XAUTOCLAIM with JUSTID.
+fn format_justid(alloc: Global, tape: &mut EntryTape, bytes: &[u8]) -> Result<String, AllocError> {
     match read_any_justid(alloc, tape, bytes, Limits::default()) {
         Ok(JustIdOutcome::InPlace(found)) => {
             let record = found.to_owned(alloc)?;
-            let beside = match copied_record(alloc, bytes, found.len)? {
-                Copied::Record(copied) => beside_of(is_same_justid(&record, &copied)),
+            let beside = match copy_record(alloc, bytes, found.len)? {
+                Copied::Record(copied) => to_beside(is_same_justid(&record, &copied)),
                 Copied::Refused | Copied::Other => Beside::Differs,
             };
-            in_place(alloc, &found, beside)
+            format_in_place(alloc, &found, beside)
         }
-        Ok(JustIdOutcome::Copied { reply, len }) => copied_text(alloc, len, reply),
+        Ok(JustIdOutcome::Copied { reply, len }) => format_copied(alloc, len, reply),
         Ok(JustIdOutcome::Incomplete) => String::from_str(alloc, INCOMPLETE),
-        Err(error) => fault_text(alloc, error),
+        Err(error) => format_fault(alloc, error),
     }
 }
 
-/// What is read in place, and the result of the copying path, if that is not the same record.
-fn in_place<F: Debug>(alloc: Global, found: &F, beside: Beside) -> Result<String, AllocError> {
+/// Returns what is read in place as text, with a remark if the copying path does not give the same record.
+fn format_in_place<F: Debug>(
+    alloc: Global,
+    found: &F,
+    beside: Beside,
+) -> Result<String, AllocError> {
     let mut text = format!(in alloc; "in place {found:?}")?;
     text.push_str(match beside {
         Beside::Same => "",
@@ -171,9 +180,9 @@ fn in_place<F: Debug>(alloc: Global, found: &F, beside: Beside) -> Result<String
     Ok(text)
 }
 
-/// A reply of another shape: whether it has a record, was refused, or has an error in it. Passes on the
-/// error that memory ran out.
-fn copied_text<T: Drop>(
+/// Returns the outcome of a reply of another shape: its length, and whether it has a record, was refused, or has an
+/// error in it. Passes on the error that memory ran out.
+fn format_copied<T: Drop>(
     alloc: Global,
     len: usize,
     reply: Result<T, ReplyError>,
@@ -199,13 +208,13 @@ enum Beside {
     Differs,
 }
 
-/// How two records compare, by whether they are the same.
-fn beside_of(same: bool) -> Beside {
+/// Returns how two records compare, by whether they are the same.
+fn to_beside(same: bool) -> Beside {
     if same { Beside::Same } else { Beside::Differs }
 }
 
-/// The record of what is read in place, or `None` if a name is not a text.
-fn record_of<T: Drop>(record: Result<T, ParsingError>) -> Result<Option<T>, AllocError> {
+/// Returns the record of what is read in place, or `None` if a name is not a text.
+fn to_record<T: Drop>(record: Result<T, ParsingError>) -> Result<Option<T>, AllocError> {
     match record {
         Ok(record) => Ok(Some(record)),
         Err(ParsingError::Memory) => Err(AllocError),
@@ -213,31 +222,31 @@ fn record_of<T: Drop>(record: Result<T, ParsingError>) -> Result<Option<T>, Allo
     }
 }
 
-/// Whether two ranges are the same.
+/// Returns whether two ranges are the same.
 fn is_same_range(one: &StreamRangeReply, other: &StreamRangeReply) -> bool {
     one.ids == other.ids
 }
 
-/// Whether two reads are the same.
+/// Returns whether two reads are the same.
 fn is_same_read(one: &StreamReadReply, other: &StreamReadReply) -> bool {
     one.keys.len() == other.keys.len() && are_same(&one.keys, &other.keys)
 }
 
-/// Whether two automatic claims are the same.
+/// Returns whether two automatic claims are the same.
 fn is_same_claim(one: &StreamAutoClaimReply, other: &StreamAutoClaimReply) -> bool {
     one.next_stream_id == other.next_stream_id
         && one.claimed == other.claimed
         && one.deleted_ids == other.deleted_ids
 }
 
-/// Whether two automatic claims of ids alone are the same.
+/// Returns whether two automatic claims of ids alone are the same.
 fn is_same_justid(one: &StreamAutoClaimJustIdReply, other: &StreamAutoClaimJustIdReply) -> bool {
     one.next_stream_id == other.next_stream_id
         && one.claimed == other.claimed
         && one.deleted_ids == other.deleted_ids
 }
 
-/// Whether streams are the same, each as the one at its index.
+/// Returns whether streams are the same, each as the one at its index.
 fn are_same(some: &[StreamKey], others: &[StreamKey]) -> bool {
     for (one, other) in some.iter().zip(others) {
         if one.key != other.key || one.ids != other.ids {
@@ -258,8 +267,8 @@ enum Copied<T> {
     Other,
 }
 
-/// The result of the copying path for the reply at the start of bytes, if the reply has this length.
-fn copied_record<T: FromRedisValue + Drop>(
+/// Returns the result of the copying path for the reply at the start of bytes, if the reply has this length.
+fn copy_record<T: FromRedisValue + Drop>(
     alloc: Global,
     bytes: &[u8],
     len: usize,
@@ -267,7 +276,7 @@ fn copied_record<T: FromRedisValue + Drop>(
     match decode(alloc, bytes, Limits::default()) {
         Ok(Decoded::Complete { reply, len: other }) => {
             if len == other {
-                copied_of(alloc, reply)
+                to_copied(alloc, reply)
             } else {
                 Ok(Copied::Other)
             }
@@ -277,8 +286,8 @@ fn copied_record<T: FromRedisValue + Drop>(
     }
 }
 
-/// The result of the copying path for a decoded reply.
-fn copied_of<T: FromRedisValue + Drop>(
+/// Returns the result of the copying path for a decoded reply.
+fn to_copied<T: FromRedisValue + Drop>(
     alloc: Global,
     reply: Reply,
 ) -> Result<Copied<T>, AllocError> {
@@ -291,8 +300,8 @@ fn copied_of<T: FromRedisValue + Drop>(
 
 // The fields of entries in place.
 
-/// The fields of each entry, or `none` if the reply does not have the shape that servers send.
-fn fields_text(alloc: Global, tape: &mut EntryTape, bytes: &[u8]) -> Result<String, AllocError> {
+/// Returns the fields of each entry, or `none` if the reply does not have the shape that servers send.
+fn format_fields(alloc: Global, tape: &mut EntryTape, bytes: &[u8]) -> Result<String, AllocError> {
     let mut text = String::new(alloc);
     match tape.read_range(bytes, Limits::default())? {
         Some(found) => {
@@ -310,7 +319,7 @@ fn fields_text(alloc: Global, tape: &mut EntryTape, bytes: &[u8]) -> Result<Stri
 fn add_entry(alloc: Global, text: &mut String, entry: &EntryRef<'_>) -> Result<(), AllocError> {
     let fields = entry.fields();
     let count = fields.len();
-    match record_of(fields.to_pairs(alloc))? {
+    match to_record(fields.to_pairs(alloc))? {
         Some(copies) => write!(text, "{count} fields {copies:?}")?,
         None => write!(text, "{count} fields, a name is no text")?,
     }
@@ -338,17 +347,16 @@ fn add_field(text: &mut String, entry: &EntryRef<'_>, name: &[u8]) -> Result<(),
 
 // Ids in their parts.
 
-/// The parts of an id, its text, and its text as an exclusive bound; `none` if the bytes
-/// are not an id.
-fn parts_text(alloc: Global, bytes: &[u8]) -> Result<String, AllocError> {
+/// Returns the parts of an id, its text, and its text as an exclusive bound; `none` if the bytes are not an id.
+fn format_parts(alloc: Global, bytes: &[u8]) -> Result<String, AllocError> {
     match StreamIdParts::parse(bytes) {
-        Some(id) => id_text(alloc, id),
+        Some(id) => format_id(alloc, id),
         None => String::from_str(alloc, "none"),
     }
 }
 
-/// The parts of an id, and its texts.
-fn id_text(alloc: Global, id: StreamIdParts) -> Result<String, AllocError> {
+/// Returns the parts of an id, and its texts.
+fn format_id(alloc: Global, id: StreamIdParts) -> Result<String, AllocError> {
     let text = id.to_text(alloc)?;
     let exclusive = id.to_exclusive_text(alloc)?;
     let text = BStr::new(text.as_slice());
@@ -356,8 +364,8 @@ fn id_text(alloc: Global, id: StreamIdParts) -> Result<String, AllocError> {
     format!(in alloc; "{id:?} {text} {exclusive}")
 }
 
-/// For each id a mark for each of the ids: `<` if it is before that one, and `-` if it is not.
-fn marks_text(alloc: Global, words: &[u8]) -> Result<String, AllocError> {
+/// Returns, for each id, a mark for each of the ids: `<` if it is before that one, and `-` if it is not.
+fn format_marks(alloc: Global, words: &[u8]) -> Result<String, AllocError> {
     let mut ids = Vec::new(alloc);
     for word in words.split(|byte| *byte == b' ') {
         if let Some(id) = StreamIdParts::parse(word) {
@@ -378,13 +386,13 @@ fn add_marks(
     ids: &[StreamIdParts],
 ) -> Result<(), AllocError> {
     for other in ids {
-        text.push(mark(id, *other))?;
+        text.push(to_mark(id, *other))?;
     }
     text.push(' ')
 }
 
-/// The mark of two ids; a question mark if the order of the type is not that of a stream.
-fn mark(id: StreamIdParts, other: StreamIdParts) -> char {
+/// Returns the mark of two ids, or `?` if `<` does not agree with `is_before`.
+fn to_mark(id: StreamIdParts, other: StreamIdParts) -> char {
     match (id.is_before(other), id < other) {
         (true, true) => '<',
         (false, false) => '-',

@@ -1,4 +1,5 @@
-//! Replies of the stream commands, read from values in the notation by both calls.
+//! Replies of the stream commands, read from values in the notation by both calls: `from_redis_value` and
+//! `from_redis_value_ref`.
 //!
 //! | Kind | Reply |
 //! |---|---|
@@ -19,7 +20,7 @@
 ghost use Rattle.test_cases.specs.Kinds.{is_info, is_other, is_reply, is_row};
 ghost use Rattle.std.specs.Prelude.{◌≡◌, IfOk, IfSome, IsSome, IsTrue};
 
-use crate::{refusal_text, text_of_both, value_of};
+use crate::{format_both, format_refusal, parse_value};
 use redis_resp::{FromRedisValue, ParsingError, from_redis_value, from_redis_value_ref};
 use redis_streams::{
     StreamAutoClaimReply, StreamClaimReply, StreamInfoConsumersReply, StreamInfoFullReply,
@@ -32,34 +33,36 @@ use std::fmt::Debug;
 use stream_entries::StreamAutoClaimJustIdReply;
 use test_notation::PrintedForm;
 
-/// The outcome of a case of this module, or `None` if its kind is another.
-pub fn outcome(alloc: Global, kind: &str, input: &str) -> Result<Option<String>, AllocError>
+/// Runs a case of this module. Returns its outcome, or `None` if its kind is another.
+pub fn run_case(alloc: Global, kind: &str, input: &str) -> Result<Option<String>, AllocError>
     ensures { IfOk result (λ o. IsSome o → IsTrue (is_reply kind.now)) }
 {
     match kind {
-        "range" | "claim" | "read" | "forms" | "autoclaim" | "justid" => rows(alloc, kind, input),
-        "stream" | "streamidmp" | "full" | "consumers" | "groups" => info(alloc, kind, input),
-        _ => other(alloc, kind, input),
+        "range" | "claim" | "read" | "forms" | "autoclaim" | "justid" => read_rows(
+            alloc, kind, input,
+        ),
+        "stream" | "streamidmp" | "full" | "consumers" | "groups" => read_info(alloc, kind, input),
+        _ => read_other(alloc, kind, input),
     }
 }
 
-/// Replies that hold entries.
-fn rows(alloc: Global, kind: &str, input: &str) -> Result<Option<String>, AllocError>
+/// Reads a value as a reply that holds entries, if the kind is such a reply.
+fn read_rows(alloc: Global, kind: &str, input: &str) -> Result<Option<String>, AllocError>
     ensures { IfOk result (λ o. IsSome o → IsTrue (is_row kind.now)) }
 {
     match kind {
         "range" => read_printed::<StreamRangeReply>(alloc, input),
         "claim" => read_printed::<StreamClaimReply>(alloc, input),
         "read" => read_printed::<StreamReadReply>(alloc, input),
-        "forms" => forms(alloc, input),
+        "forms" => format_forms(alloc, input),
         "autoclaim" => read_printed::<StreamAutoClaimReply>(alloc, input),
-        "justid" => read_shown::<StreamAutoClaimJustIdReply>(alloc, input),
+        "justid" => read_debug::<StreamAutoClaimJustIdReply>(alloc, input),
         _ => Ok(None),
     }
 }
 
-/// Replies of XINFO.
-fn info(alloc: Global, kind: &str, input: &str) -> Result<Option<String>, AllocError>
+/// Reads a value as a reply of XINFO, if the kind is such a reply.
+fn read_info(alloc: Global, kind: &str, input: &str) -> Result<Option<String>, AllocError>
     ensures { IfOk result (λ o. IsSome o → IsTrue (is_info kind.now)) }
 {
     match kind {
@@ -72,12 +75,12 @@ fn info(alloc: Global, kind: &str, input: &str) -> Result<Option<String>, AllocE
     }
 }
 
-/// Replies on pending entries, and status codes.
-fn other(alloc: Global, kind: &str, input: &str) -> Result<Option<String>, AllocError>
+/// Reads a value as a reply on pending entries or as a status code, if the kind is one of these.
+fn read_other(alloc: Global, kind: &str, input: &str) -> Result<Option<String>, AllocError>
     ensures { IfOk result (λ o. IsSome o → IsTrue (is_other kind.now)) }
 {
     match kind {
-        "pending" => pending(alloc, input),
+        "pending" => read_pending(alloc, input),
         "pendingcount" => read_printed::<StreamPendingCountReply>(alloc, input),
         "xdelex" => read_printed::<XDelExStatusCode>(alloc, input),
         "xackdel" => read_printed::<XAckDelStatusCode>(alloc, input),
@@ -85,9 +88,9 @@ fn other(alloc: Global, kind: &str, input: &str) -> Result<Option<String>, Alloc
     }
 }
 
-/// The forms of a read reply that the value has.
-fn forms(alloc: Global, input: &str) -> Result<Option<String>, AllocError> {
-    match value_of(alloc, input)? {
+/// Returns the forms of a read reply that the value has.
+fn format_forms(alloc: Global, input: &str) -> Result<Option<String>, AllocError> {
+    match parse_value(alloc, input)? {
         Ok(value) => {
             let forms = StreamReadReply::forms(&value);
             Ok(Some(format!(in alloc; "{forms:?}")?))
@@ -96,12 +99,12 @@ fn forms(alloc: Global, input: &str) -> Result<Option<String>, AllocError> {
     }
 }
 
-/// A summary of pending entries: the printed form, and the `Debug` form; a refusal is printed once.
-fn pending(alloc: Global, input: &str) -> Result<Option<String>, AllocError> {
+/// Reads a value as a summary of pending entries. Returns the printed form and the `Debug` text, or a refusal once.
+fn read_pending(alloc: Global, input: &str) -> Result<Option<String>, AllocError> {
     let Some(printed) = read_printed::<StreamPendingReply>(alloc, input)? else {
         return Ok(None);
     };
-    let Some(shown) = read_shown::<StreamPendingReply>(alloc, input)? else {
+    let Some(shown) = read_debug::<StreamPendingReply>(alloc, input)? else {
         return Ok(None);
     };
     if printed.as_str() == shown.as_str() {
@@ -111,81 +114,84 @@ fn pending(alloc: Global, input: &str) -> Result<Option<String>, AllocError> {
     }
 }
 
-/// The results of both calls on the value, by value and borrowed, in their printed form.
+/// Returns the results of both calls on the value, by value and borrowed, in their printed form.
 fn read_printed<T: Record + PrintedForm>(
     alloc: Global,
     input: &str,
 ) -> Result<Option<String>, AllocError> {
-    let value = match value_of(alloc, input)? {
+    let value = match parse_value(alloc, input)? {
         Ok(value) => value,
         Err(text) => return Ok(Some(text)),
     };
     let before = value.try_clone(alloc)?;
-    let lent = printed_answer(alloc, from_redis_value_ref::<T>(alloc, &value))?;
+    let lent = format_printed_result(alloc, from_redis_value_ref::<T>(alloc, &value))?;
     let changed = value != before;
     drop(before);
-    let owned = printed_answer(alloc, from_redis_value::<T>(alloc, value))?;
-    Ok(Some(text_of_both(alloc, owned, &lent, changed)?))
+    let owned = format_printed_result(alloc, from_redis_value::<T>(alloc, value))?;
+    Ok(Some(format_both(alloc, owned, &lent, changed)?))
 }
 
-/// The printed form of the record, or the refusal.
-fn printed_answer<T: Record + PrintedForm>(
+/// Returns the printed form of the record, or the refusal.
+fn format_printed_result<T: Record + PrintedForm>(
     alloc: Global,
     answer: Result<T, ParsingError>,
 ) -> Result<String, AllocError> {
     match answer {
-        Ok(record) => printed_text(alloc, &record),
-        Err(error) => refusal_text(alloc, &error),
+        Ok(record) => format_printed_record(alloc, &record),
+        Err(error) => format_refusal(alloc, &error),
     }
 }
 
-/// The printed form of the record, and that of a copy too if it differs.
-fn printed_text<T: Record + PrintedForm>(alloc: Global, record: &T) -> Result<String, AllocError> {
+/// Returns the printed form of the record, and that of a copy too if it differs.
+fn format_printed_record<T: Record + PrintedForm>(
+    alloc: Global,
+    record: &T,
+) -> Result<String, AllocError> {
     let text = record.printed(alloc)?;
     let Some(copy) = record.copy(alloc)? else {
         return Ok(text);
     };
     let copied = copy.printed(alloc)?;
-    with_copy(alloc, text, &copied)
+    add_copy(alloc, text, &copied)
 }
 
-/// The results of both calls on the value, by value and borrowed, as `Debug` prints them.
-fn read_shown<T: Record + Debug>(alloc: Global, input: &str) -> Result<Option<String>, AllocError> {
-    let value = match value_of(alloc, input)? {
+/// Returns the results of both calls on the value, by value and borrowed, as `Debug` prints them.
+fn read_debug<T: Record + Debug>(alloc: Global, input: &str) -> Result<Option<String>, AllocError> {
+    let value = match parse_value(alloc, input)? {
         Ok(value) => value,
         Err(text) => return Ok(Some(text)),
     };
     let before = value.try_clone(alloc)?;
-    let lent = shown_answer(alloc, from_redis_value_ref::<T>(alloc, &value))?;
+    let lent = format_debug_result(alloc, from_redis_value_ref::<T>(alloc, &value))?;
     let changed = value != before;
     drop(before);
-    let owned = shown_answer(alloc, from_redis_value::<T>(alloc, value))?;
-    Ok(Some(text_of_both(alloc, owned, &lent, changed)?))
+    let owned = format_debug_result(alloc, from_redis_value::<T>(alloc, value))?;
+    Ok(Some(format_both(alloc, owned, &lent, changed)?))
 }
 
-/// The record as `Debug` prints it, or the refusal.
-fn shown_answer<T: Record + Debug>(
+/// Returns the record as `Debug` prints it, or the refusal.
+fn format_debug_result<T: Record + Debug>(
     alloc: Global,
     answer: Result<T, ParsingError>,
 ) -> Result<String, AllocError> {
     match answer {
-        Ok(record) => shown_text(alloc, &record),
-        Err(error) => refusal_text(alloc, &error),
+        Ok(record) => format_debug_record(alloc, &record),
+        Err(error) => format_refusal(alloc, &error),
     }
 }
 
-/// The record as `Debug` prints it, and a copy of it too if that has another text.
-fn shown_text<T: Record + Debug>(alloc: Global, record: &T) -> Result<String, AllocError> {
+/// Returns the record as `Debug` prints it, and a copy of it too if that has another text.
+fn format_debug_record<T: Record + Debug>(alloc: Global, record: &T) -> Result<String, AllocError> {
     let text = format!(in alloc; "{record:?}")?;
     let Some(copy) = record.copy(alloc)? else {
         return Ok(text);
     };
     let copied = format!(in alloc; "{copy:?}")?;
-    with_copy(alloc, text, &copied)
+    add_copy(alloc, text, &copied)
 }
 
-/// The text of a record, and that of its copy too if it differs.
-fn with_copy(alloc: Global, text: String, copied: &str) -> Result<String, AllocError> {
+/// Returns the text of a record, and that of its copy too if it differs.
+fn add_copy(alloc: Global, text: String, copied: &str) -> Result<String, AllocError> {
     if copied == text.as_str() {
         Ok(text)
     } else {
@@ -197,7 +203,7 @@ fn with_copy(alloc: Global, text: String, copied: &str) -> Result<String, AllocE
 
 /// A record that cases print.
 trait Record: FromRedisValue {
-    /// A copy of the record, which means the same, or `None` if the type has none.
+    /// Returns a copy of the record, which means the same, or `None` if the type has no copy.
     fn copy(&self, alloc: Global) -> Result<Option<Self>, AllocError>
         ensures { IfOk result (λ copy. IfSome copy (λ c. Self.meaning c ≡ Self.meaning self.now)) };
 }

@@ -5,8 +5,9 @@
 //! socket    15000 write     cannot read from the server: invalid input parameter: nodelay Some(true), ..
 //! ```
 //!
-//! The input is the patience in milliseconds, and a word for the call that the stream refuses, if any. No contract
-//! refuses a body of `TimedStream` that sets something else at a stream of std. So these lines try it.
+//! The input is the patience in milliseconds, and a word for the call that the stream refuses, if any. The patience
+//! is the timeout of a read and of a write. No contract refuses a body of `TimedStream` that sets something else at
+//! a stream of std. So these lines try it.
 ghost use Rattle.std.specs.Prelude.{IfOk, IsSome, IsTrue};
 ghost use Rattle.test_cases.specs.Kinds.{is_socket};
 
@@ -36,7 +37,7 @@ struct Noting<'a> {
 
 impl Noting<'_> {
     /// Returns an error if the call of this word is refused.
-    fn allow_call(&self, word: &str) -> io::Result<()> {
+    fn check_call(&self, word: &str) -> io::Result<()> {
         if self.noted.refused == word {
             return Err(io::Error::from(ErrorKind::InvalidInput));
         }
@@ -62,41 +63,41 @@ impl Write for Noting<'_> {
 
 impl<'a> OpenStream for Noting<'a> {
     fn set_nodelay(&self, nodelay: bool) -> io::Result<()> {
-        self.allow_call("nodelay")?;
+        self.check_call("nodelay")?;
         self.noted.nodelay.set(Some(nodelay));
         Ok(())
     }
 
     fn set_read_timeout(&self, limit: Option<Duration>) -> io::Result<()> {
-        self.allow_call("read")?;
+        self.check_call("read")?;
         self.noted.read.set(limit);
         Ok(())
     }
 
     fn set_write_timeout(&self, limit: Option<Duration>) -> io::Result<()> {
-        self.allow_call("write")?;
+        self.check_call("write")?;
         self.noted.write.set(limit);
         Ok(())
     }
 
     fn try_clone(&self) -> io::Result<Noting<'a>> {
-        self.allow_call("clone")?;
+        self.check_call("clone")?;
         Ok(Noting { noted: self.noted })
     }
 }
 
-/// The outcome of a case of this module, or `None` if its kind is another.
-pub fn outcome(alloc: Global, kind: &str, input: &str) -> Result<Option<String>, AllocError>
+/// Runs a case of this module. Returns its outcome, or `None` if its kind is another.
+pub fn run_case(alloc: Global, kind: &str, input: &str) -> Result<Option<String>, AllocError>
     ensures { IfOk result (λ o. IsSome o → IsTrue (is_socket kind.now)) }
 {
     match kind {
-        "socket" => Ok(Some(outcome_of(alloc, input)?)),
+        "socket" => Ok(Some(try_socket(alloc, input)?)),
         _ => Ok(None),
     }
 }
 
-/// The outcome of a case of this kind.
-fn outcome_of(alloc: Global, input: &str) -> Result<String, AllocError> {
+/// Parses an input, and makes a connection over a stream by it. Returns the outcome.
+fn try_socket(alloc: Global, input: &str) -> Result<String, AllocError> {
     let (number, refused) = match input.split_once(' ') {
         Some(parts) => parts,
         None => (input, ""),
@@ -107,7 +108,7 @@ fn outcome_of(alloc: Global, input: &str) -> Result<String, AllocError> {
     }
 }
 
-/// Whether a connection was made, and what was set at the stream.
+/// Makes a connection over a stream. Returns whether it was made, and what was set at the stream.
 fn try_stream(alloc: Global, patience: Duration, refused: &str) -> Result<String, AllocError> {
     let noted = Noted {
         refused,

@@ -16,7 +16,7 @@
 ghost use Rattle.test_cases.specs.Kinds.{is_wire};
 ghost use Rattle.std.specs.Prelude.{◌≡◌, IfOk, IsSome, IsTrue};
 
-use crate::{INCOMPLETE, bytes_of, fault_text};
+use crate::{INCOMPLETE, decode_escapes, format_fault};
 use bstr::BStr;
 use redis_resp::{FromRedisValue, ToRedisArgs};
 use redis_wire::place::Span;
@@ -37,20 +37,20 @@ const SMALL: Limits = Limits {
     bytes: 64,
 };
 
-/// The outcome of a case of this module, or `None` if its kind is another.
-pub fn outcome(alloc: Global, kind: &str, input: &str) -> Result<Option<String>, AllocError>
+/// Runs a case of this module. Returns its outcome, or `None` if its kind is another.
+pub fn run_case(alloc: Global, kind: &str, input: &str) -> Result<Option<String>, AllocError>
     ensures { IfOk result (λ o. IsSome o → IsTrue (is_wire kind.now)) }
 {
     if !is_kind(kind) {
         return Ok(None);
     }
-    match bytes_of(alloc, input)? {
-        Some(bytes) => Ok(Some(outcome_of(alloc, kind, &bytes)?)),
+    match decode_escapes(alloc, input)? {
+        Some(bytes) => Ok(Some(run_kind(alloc, kind, &bytes)?)),
         None => Ok(Some(String::from_str(alloc, "not the text of bytes")?)),
     }
 }
 
-/// Whether a kind is one of this module.
+/// Returns whether a kind is one of this module.
 fn is_kind(kind: &str) -> bool
     ensures { result ≡ is_wire kind.now }
 {
@@ -68,18 +68,18 @@ fn is_kind(kind: &str) -> bool
     )
 }
 
-/// The outcome of bytes.
-fn outcome_of(alloc: Global, kind: &str, bytes: &[u8]) -> Result<String, AllocError> {
+/// Returns the outcome of bytes, for a kind of this module.
+fn run_kind(alloc: Global, kind: &str, bytes: &[u8]) -> Result<String, AllocError> {
     match kind {
-        "wire" => compared_ways(alloc, Limits::default(), bytes),
-        "limited" => compared_ways(alloc, SMALL, bytes),
-        "decoded" => one_by_one(alloc, Limits::default(), bytes),
-        "pieces" => pieces_text(alloc, bytes),
-        "nodes" => listed_nodes(alloc, bytes),
+        "wire" => compare_ways(alloc, Limits::default(), bytes),
+        "limited" => compare_ways(alloc, SMALL, bytes),
+        "decoded" => read_byte_by_byte(alloc, Limits::default(), bytes),
+        "pieces" => compare_sizes(alloc, bytes),
+        "nodes" => list_nodes(alloc, bytes),
         "reply-text" => read_as::<String>(alloc, bytes),
         "reply-texts" => read_as::<Vec<String>>(alloc, bytes),
         "reply-number" => read_as::<usize>(alloc, bytes),
-        _ => packed_text(alloc, bytes),
+        _ => pack_words(alloc, bytes),
     }
 }
 
@@ -92,21 +92,21 @@ struct Cut {
     next: usize,
 }
 
-/// The outcome of decoding bytes, and after it that of a stream which is fed them byte by byte, if it
+/// Returns the outcome of decoding bytes, and after it that of a stream which is fed them byte by byte, if it
 /// differs.
-fn one_by_one(alloc: Global, limits: Limits, bytes: &[u8]) -> Result<String, AllocError> {
-    let told = decoded(alloc, limits, bytes)?;
+fn read_byte_by_byte(alloc: Global, limits: Limits, bytes: &[u8]) -> Result<String, AllocError> {
+    let told = decode_reply(alloc, limits, bytes)?;
     let mut outcome = told.clone()?;
     let cut = Cut { first: 1, next: 1 };
     add_streams(alloc, limits, bytes, cut, &told, &mut outcome)?;
     Ok(outcome)
 }
 
-/// The outcome of `one_by_one`, and that of each way for the bytes cut in two and for each prefix of them, if
-/// it differs.
-fn compared_ways(alloc: Global, limits: Limits, bytes: &[u8]) -> Result<String, AllocError> {
-    let told = decoded(alloc, limits, bytes)?;
-    let mut outcome = one_by_one(alloc, limits, bytes)?;
+/// Returns the outcome of `read_byte_by_byte`. Adds that of each way for the bytes cut in two and for each prefix
+/// of them, if it differs.
+fn compare_ways(alloc: Global, limits: Limits, bytes: &[u8]) -> Result<String, AllocError> {
+    let told = decode_reply(alloc, limits, bytes)?;
+    let mut outcome = read_byte_by_byte(alloc, limits, bytes)?;
     for first in 0..=bytes.len() {
         let cut = Cut {
             first,
@@ -121,20 +121,20 @@ fn compared_ways(alloc: Global, limits: Limits, bytes: &[u8]) -> Result<String, 
     Ok(outcome)
 }
 
-/// Appends the outcomes of streams and nodes for a prefix of the bytes, if decoding has another one.
+/// Appends the outcomes of streams and of nodes for a prefix of the bytes, if they differ from that of decoding it.
 fn add_front(
     alloc: Global,
     limits: Limits,
     front: &[u8],
     outcome: &mut String,
 ) -> Result<(), AllocError> {
-    let told = decoded(alloc, limits, front)?;
+    let told = decode_reply(alloc, limits, front)?;
     let whole = Cut {
         first: usize::MAX,
         next: 0,
     };
     add_streams(alloc, limits, front, whole, &told, outcome)?;
-    let other = found_nodes(alloc, limits, front)?;
+    let other = read_nodes(alloc, limits, front)?;
     add_other_way(outcome, &told, &other, "as nodes")
 }
 
@@ -148,9 +148,9 @@ fn add_streams(
     told: &str,
     outcome: &mut String,
 ) -> Result<(), AllocError> {
-    let other = streamed(alloc, limits, bytes, cut, false)?;
+    let other = feed_pieces(alloc, limits, bytes, cut, false)?;
     add_other_way(outcome, told, &other, "in pieces")?;
-    let other = streamed(alloc, limits, bytes, cut, true)?;
+    let other = feed_pieces(alloc, limits, bytes, cut, true)?;
     add_other_way(outcome, told, &other, "in place")
 }
 
@@ -168,22 +168,23 @@ fn add_other_way(
     write!(outcome, "; {way}: {other}")
 }
 
-/// The outcome of decoding the reply at the start of bytes.
-fn decoded(alloc: Global, limits: Limits, bytes: &[u8]) -> Result<String, AllocError> {
+/// Returns the outcome of decoding the reply at the start of bytes.
+fn decode_reply(alloc: Global, limits: Limits, bytes: &[u8]) -> Result<String, AllocError> {
     match decode(alloc, bytes, limits) {
-        Ok(Decoded::Complete { reply, len }) => reply_text(alloc, len, &reply),
+        Ok(Decoded::Complete { reply, len }) => format_reply(alloc, len, &reply),
         Ok(Decoded::Incomplete) => String::from_str(alloc, INCOMPLETE),
-        Err(error) => fault_text(alloc, error),
+        Err(error) => format_fault(alloc, error),
     }
 }
 
-/// The length of a reply and the reply.
-fn reply_text(alloc: Global, len: usize, reply: &Reply) -> Result<String, AllocError> {
+/// Returns the length of a reply and the reply.
+fn format_reply(alloc: Global, len: usize, reply: &Reply) -> Result<String, AllocError> {
     format!(in alloc; "{len} {reply:?}")
 }
 
-/// The outcome of a stream that is fed bytes in pieces, after the first piece that gives another one than `incomplete`.
-fn streamed(
+/// Feeds bytes to a stream in pieces. Returns the first outcome that is not `incomplete`, or `incomplete` if there
+/// is none.
+fn feed_pieces(
     alloc: Global,
     limits: Limits,
     bytes: &[u8],
@@ -198,10 +199,10 @@ fn streamed(
         rest = after;
         size = cut.next;
         if let Err(error) = stream.feed(piece) {
-            return fault_text(alloc, error);
+            return format_fault(alloc, error);
         }
         let fed = bytes.len().saturating_sub(rest.len());
-        let text = head_text(alloc, &mut stream, bytes, fed, in_place)?;
+        let text = take_first_reply(alloc, &mut stream, bytes, fed, in_place)?;
         if text.as_str() != INCOMPLETE || rest.is_empty() {
             return Ok(text);
         }
@@ -209,8 +210,8 @@ fn streamed(
     String::from_str(alloc, INCOMPLETE)
 }
 
-/// The outcome of a stream for its first reply, after it was fed `fed` of the bytes.
-fn head_text(
+/// Takes the first reply out of a stream that was fed `fed` of the bytes. Returns the outcome.
+fn take_first_reply(
     alloc: Global,
     stream: &mut ReplyStream,
     bytes: &[u8],
@@ -219,24 +220,28 @@ fn head_text(
 ) -> Result<String, AllocError> {
     if in_place {
         let (front, _) = bytes.split_at(fed.min(bytes.len()));
-        place_text(alloc, stream, front)
+        take_in_place(alloc, stream, front)
     } else {
-        next_text(alloc, stream, fed)
+        take_value(alloc, stream, fed)
     }
 }
 
-/// The outcome of taking the first reply as a value out of a stream that holds `held` bytes.
-fn next_text(alloc: Global, stream: &mut ReplyStream, held: usize) -> Result<String, AllocError> {
+/// Takes the first reply as a value out of a stream that holds `held` bytes. Returns the outcome.
+fn take_value(alloc: Global, stream: &mut ReplyStream, held: usize) -> Result<String, AllocError> {
     match stream.next(alloc) {
-        Ok(Some(reply)) => reply_text(alloc, held.saturating_sub(stream.held()), &reply),
+        Ok(Some(reply)) => format_reply(alloc, held.saturating_sub(stream.held()), &reply),
         Ok(None) => String::from_str(alloc, INCOMPLETE),
-        Err(error) => fault_text(alloc, error),
+        Err(error) => format_fault(alloc, error),
     }
 }
 
-/// The outcome of taking the first reply in place out of a stream that was fed these bytes: its length and a
-/// space, if the stream holds all of them, and those after the reply once it is removed.
-fn place_text(alloc: Global, stream: &mut ReplyStream, fed: &[u8]) -> Result<String, AllocError> {
+/// Takes the first reply in place out of a stream that was fed these bytes. Returns its length and a space, if the
+/// stream holds just these bytes, and just those after the reply once it is removed.
+fn take_in_place(
+    alloc: Global,
+    stream: &mut ReplyStream,
+    fed: &[u8],
+) -> Result<String, AllocError> {
     if stream.bytes() != fed {
         return String::from_str(alloc, "other bytes are held");
     }
@@ -252,7 +257,7 @@ fn place_text(alloc: Global, stream: &mut ReplyStream, fed: &[u8]) -> Result<Str
             format!(in alloc; "{len} {held}")
         }
         Ok(None) => String::from_str(alloc, INCOMPLETE),
-        Err(error) => fault_text(alloc, error),
+        Err(error) => format_fault(alloc, error),
     }
 }
 
@@ -287,11 +292,11 @@ const WAYS: [Way; 3] = [
     },
 ];
 
-/// The count of replies, and of the bytes after them; then each size of pieces in which a
-/// stream finds other replies.
-fn pieces_text(alloc: Global, bytes: &[u8]) -> Result<String, AllocError> {
+/// Returns the count of replies, and of the bytes after them; then each size of pieces in which a stream finds
+/// other replies.
+fn compare_sizes(alloc: Global, bytes: &[u8]) -> Result<String, AllocError> {
     let mut told = String::new(alloc);
-    let mut outcome = all_replies(alloc, bytes, &mut told)?;
+    let mut outcome = count_replies(alloc, bytes, &mut told)?;
     for size in SIZES {
         add_other_pieces(alloc, bytes, size, &told, &mut outcome)?;
     }
@@ -312,7 +317,7 @@ fn add_other_pieces(
     outcome: &mut String,
 ) -> Result<(), AllocError> {
     for way in WAYS {
-        let other = replies_in_pieces(alloc, bytes, size, way)?;
+        let other = list_replies(alloc, bytes, size, way)?;
         if other.as_str() != told {
             write!(outcome, "; others in pieces of {size}")?;
         }
@@ -320,12 +325,12 @@ fn add_other_pieces(
     Ok(())
 }
 
-/// The count of replies, and of the bytes after them. Appends a line for each reply.
-fn all_replies(alloc: Global, bytes: &[u8], told: &mut String) -> Result<String, AllocError> {
+/// Returns the count of replies, and of the bytes after them. Appends a line for each reply.
+fn count_replies(alloc: Global, bytes: &[u8], told: &mut String) -> Result<String, AllocError> {
     let mut rest = bytes;
     let mut count = 0usize;
     for _ in 0..bytes.len() {
-        let Some((text, len)) = first_reply(alloc, rest)? else {
+        let Some((text, len)) = decode_first(alloc, rest)? else {
             break;
         };
         add_line(told, &text)?;
@@ -336,11 +341,11 @@ fn all_replies(alloc: Global, bytes: &[u8], told: &mut String) -> Result<String,
     format!(in alloc; "{count} replies, {left} bytes after them")
 }
 
-/// The reply at the start of bytes, and its length.
-fn first_reply(alloc: Global, bytes: &[u8]) -> Result<Option<(String, usize)>, AllocError> {
+/// Returns the reply at the start of bytes and its length, or `None` if there is no whole reply.
+fn decode_first(alloc: Global, bytes: &[u8]) -> Result<Option<(String, usize)>, AllocError> {
     match decode(alloc, bytes, Limits::default()) {
         Ok(Decoded::Complete { reply, len }) => {
-            let text = reply_text(alloc, len, &reply)?;
+            let text = format_reply(alloc, len, &reply)?;
             Ok(Some((text, len)))
         }
         Err(WireError::Memory) => Err(AllocError),
@@ -354,13 +359,8 @@ fn add_line(text: &mut String, line: &str) -> Result<(), AllocError> {
     text.push('\n')
 }
 
-/// A line for each reply that a stream finds in bytes that are fed in pieces of this size.
-fn replies_in_pieces(
-    alloc: Global,
-    bytes: &[u8],
-    size: usize,
-    way: Way,
-) -> Result<String, AllocError> {
+/// Returns a line for each reply that a stream finds in bytes that are fed in pieces of this size.
+fn list_replies(alloc: Global, bytes: &[u8], size: usize, way: Way) -> Result<String, AllocError> {
     let mut stream = ReplyStream::new(alloc, Limits::default());
     let mut told = String::new(alloc);
     let mut in_place = way.in_place;
@@ -369,7 +369,7 @@ fn replies_in_pieces(
         let (piece, after) = rest.split_at(size.min(rest.len()));
         rest = after;
         if let Err(error) = stream.feed(piece) {
-            return fault_text(alloc, error);
+            return format_fault(alloc, error);
         }
         in_place = take_replies(alloc, &mut stream, &mut told, in_place, way.alternates)?;
         if rest.is_empty() {
@@ -391,7 +391,7 @@ fn take_replies(
     let mut in_place = in_place;
     for _ in 0..stream.held() {
         let held = stream.held();
-        let text = taken_text(alloc, stream, held, in_place)?;
+        let text = take_reply(alloc, stream, held, in_place)?;
         if text.as_str() == INCOMPLETE || stream.held() == held {
             break;
         }
@@ -401,46 +401,46 @@ fn take_replies(
     Ok(in_place)
 }
 
-/// Takes the first reply out of a stream, as a value or in place.
-fn taken_text(
+/// Takes the first reply out of a stream, as a value or in place. Returns the outcome.
+fn take_reply(
     alloc: Global,
     stream: &mut ReplyStream,
     held: usize,
     in_place: bool,
 ) -> Result<String, AllocError> {
     if in_place {
-        reply_in_place(alloc, stream)
+        decode_in_place(alloc, stream)
     } else {
-        next_text(alloc, stream, held)
+        take_value(alloc, stream, held)
     }
 }
 
 /// Takes the first reply out of a stream in place; its text is that of decoding its bytes.
-fn reply_in_place(alloc: Global, stream: &mut ReplyStream) -> Result<String, AllocError> {
+fn decode_in_place(alloc: Global, stream: &mut ReplyStream) -> Result<String, AllocError> {
     match stream.next_in_place(alloc) {
         Ok(Some(len)) => {
-            let text = decoded(alloc, stream.limits(), &stream.bytes()[..len])?;
+            let text = decode_reply(alloc, stream.limits(), &stream.bytes()[..len])?;
             stream.give_out(len);
             Ok(text)
         }
         Ok(None) => String::from_str(alloc, INCOMPLETE),
-        Err(error) => fault_text(alloc, error),
+        Err(error) => format_fault(alloc, error),
     }
 }
 
 // Replies in place as flat lists of nodes.
 
-/// The nodes of a reply, or `none`: the type, the text, the count of members, and where they end.
-fn listed_nodes(alloc: Global, bytes: &[u8]) -> Result<String, AllocError> {
-    let mut nodes = node_table(alloc, bytes.len() / 3)?;
+/// Returns the nodes of a reply, or `none`. A node is its type, its text, its count of members, and where they end.
+fn list_nodes(alloc: Global, bytes: &[u8]) -> Result<String, AllocError> {
+    let mut nodes = make_node_table(alloc, bytes.len() / 3)?;
     match nodes_in(Limits::default(), bytes, nodes.as_mut_slice()) {
-        Some(count) => nodes_text(alloc, bytes, &nodes[..count]),
+        Some(count) => format_nodes(alloc, bytes, &nodes[..count]),
         None => String::from_str(alloc, "none"),
     }
 }
 
-/// The nodes as text, with a space between each two.
-fn nodes_text(alloc: Global, bytes: &[u8], nodes: &[Node]) -> Result<String, AllocError> {
+/// Returns the nodes as text, with a space between each two.
+fn format_nodes(alloc: Global, bytes: &[u8], nodes: &[Node]) -> Result<String, AllocError> {
     let mut text = String::new(alloc);
     for node in nodes {
         if !text.is_empty() {
@@ -455,33 +455,33 @@ fn nodes_text(alloc: Global, bytes: &[u8], nodes: &[Node]) -> Result<String, All
 fn add_node(text: &mut String, bytes: &[u8], node: &Node) -> Result<(), AllocError> {
     let Span { start, len } = node.text;
     let kind = char::from(node.kind);
-    let shown = BStr::new(part_of(bytes, start, len));
+    let shown = BStr::new(get_part(bytes, start, len));
     let members = node.members;
     let end = node.end;
     write!(text, "{kind}{shown} {members}>{end}")
 }
 
-/// At most `len` bytes from `start` on.
-fn part_of(bytes: &[u8], start: usize, len: usize) -> &[u8] {
+/// Returns at most `len` bytes from `start` on.
+fn get_part(bytes: &[u8], start: usize, len: usize) -> &[u8] {
     let (_, behind) = bytes.split_at(start.min(bytes.len()));
     let (text, _) = behind.split_at(len.min(behind.len()));
     text
 }
 
-/// The outcome of `find_nodes`: the length of a reply and a space, or the outcome that decoding would have.
-fn found_nodes(alloc: Global, limits: Limits, bytes: &[u8]) -> Result<String, AllocError> {
-    let mut nodes = node_table(alloc, bytes.len() / 3)?;
+/// Returns the outcome of `find_nodes`: the length of a reply and a space, or the outcome that decoding would have.
+fn read_nodes(alloc: Global, limits: Limits, bytes: &[u8]) -> Result<String, AllocError> {
+    let mut nodes = make_node_table(alloc, bytes.len() / 3)?;
     match find_nodes(alloc, limits, bytes, nodes.as_mut_slice()) {
-        Ok(Found::Whole { len, count }) => listed_text(alloc, limits, bytes, len, count),
+        Ok(Found::Whole { len, count }) => check_node_count(alloc, limits, bytes, len, count),
         Ok(Found::NoRoom { len }) => format!(in alloc; "no room for {len}"),
         Ok(Found::Incomplete) => String::from_str(alloc, INCOMPLETE),
-        Err(error) => fault_text(alloc, error),
+        Err(error) => format_fault(alloc, error),
     }
 }
 
-/// The length of a reply and a space, if its bytes alone have this count of nodes, in a table that
-/// they fill and in no smaller one.
-fn listed_text(
+/// Checks that the bytes of a reply alone have this count of nodes, in a table that they fill and in no smaller
+/// one. Returns their length and a space, or what differs.
+fn check_node_count(
     alloc: Global,
     limits: Limits,
     bytes: &[u8],
@@ -489,8 +489,8 @@ fn listed_text(
     count: usize,
 ) -> Result<String, AllocError> {
     let (text, after) = bytes.split_at(len.min(bytes.len()));
-    let filled = nodes_with(alloc, limits, text, count)?;
-    let longer = nodes_with(alloc, limits, bytes, count)?;
+    let filled = count_nodes(alloc, limits, text, count)?;
+    let longer = count_nodes(alloc, limits, bytes, count)?;
     if filled != Some(count) || longer.is_some() != after.is_empty() {
         return format!(in alloc; "other nodes in {len} bytes");
     }
@@ -500,9 +500,9 @@ fn listed_text(
     format!(in alloc; "{len} ")
 }
 
-/// Whether a table of this length has room for the nodes of the reply at the start of bytes.
+/// Returns whether a table of this length has room for the nodes of the reply at the start of bytes.
 fn has_room(alloc: Global, limits: Limits, bytes: &[u8], room: usize) -> Result<bool, AllocError> {
-    let mut nodes = node_table(alloc, room)?;
+    let mut nodes = make_node_table(alloc, room)?;
     match find_nodes(alloc, limits, bytes, nodes.as_mut_slice()) {
         Ok(Found::NoRoom { len: _ }) => Ok(false),
         Err(WireError::Memory) => Err(AllocError),
@@ -510,19 +510,19 @@ fn has_room(alloc: Global, limits: Limits, bytes: &[u8], room: usize) -> Result<
     }
 }
 
-/// The count of nodes of a text, if a table of this length has room for them.
-fn nodes_with(
+/// Returns the count of nodes of a text, if a table of this length has room for them.
+fn count_nodes(
     alloc: Global,
     limits: Limits,
     text: &[u8],
     room: usize,
 ) -> Result<Option<usize>, AllocError> {
-    let mut nodes = node_table(alloc, room)?;
+    let mut nodes = make_node_table(alloc, room)?;
     Ok(nodes_in(limits, text, nodes.as_mut_slice()))
 }
 
-/// A table of `room` nodes.
-fn node_table(alloc: Global, room: usize) -> Result<Vec<Node>, AllocError> {
+/// Returns a table of `room` nodes.
+fn make_node_table(alloc: Global, room: usize) -> Result<Vec<Node>, AllocError> {
     let empty = Node {
         kind: 0,
         text: Span { start: 0, len: 0 },
@@ -534,35 +534,35 @@ fn node_table(alloc: Global, room: usize) -> Result<Vec<Node>, AllocError> {
 
 // The record that a reply is read as, and the error that a caller gets if it is no such record.
 
-/// The record of the reply at the start of bytes, or the error, each as `Debug` prints it. An error is
+/// Returns the record of the reply at the start of bytes, or the error, each as `Debug` prints it. An error is
 /// followed by the text that a caller gets.
 fn read_as<T: FromRedisValue + Debug>(alloc: Global, bytes: &[u8]) -> Result<String, AllocError> {
-    match record_of::<T>(alloc, bytes) {
+    match read_record::<T>(alloc, bytes) {
         Ok(record) => format!(in alloc; "{record:?}"),
-        Err(error) => error_text(alloc, &error),
+        Err(error) => format_error(alloc, &error),
     }
 }
 
-/// The record of the reply at the start of bytes, with every error of a caller in one type.
-fn record_of<T: FromRedisValue>(alloc: Global, bytes: &[u8]) -> Result<T, RedisError> {
+/// Returns the record of the reply at the start of bytes, with every error of a caller in one type.
+fn read_record<T: FromRedisValue>(alloc: Global, bytes: &[u8]) -> Result<T, RedisError> {
     match decode(alloc, bytes, Limits::default())? {
         Decoded::Complete { reply, len: _ } => Ok(from_reply::<T>(alloc, reply)?),
         Decoded::Incomplete => Err(RedisError::NotAnAnswer),
     }
 }
 
-/// An error, and the text that a caller gets; for an error of the server also its code and its message. Passes
-/// on the error that memory ran out.
-fn error_text(alloc: Global, error: &RedisError) -> Result<String, AllocError> {
+/// Returns an error, and the text that a caller gets; for an error of the server also its code and its message.
+/// Passes on the error that memory ran out.
+fn format_error(alloc: Global, error: &RedisError) -> Result<String, AllocError> {
     match error {
         RedisError::Memory => Err(AllocError),
-        RedisError::Server(error) => server_text(alloc, error),
+        RedisError::Server(error) => format_server_error(alloc, error),
         _ => format!(in alloc; "{error:?}: {error}"),
     }
 }
 
-/// An error of the server, its code and its message.
-fn server_text(alloc: Global, error: &ServerError) -> Result<String, AllocError> {
+/// Returns an error of the server, its code and its message.
+fn format_server_error(alloc: Global, error: &ServerError) -> Result<String, AllocError> {
     let code = BStr::new(error.code());
     let message = BStr::new(error.message());
     format!(in alloc; "{error:?}: {error}, code {code:?}, message {message:?}")
@@ -573,17 +573,17 @@ fn server_text(alloc: Global, error: &ServerError) -> Result<String, AllocError>
 /// What a pipeline holds before a command is added.
 const PIPELINE: &[u8] = b"*1\r\n$4\r\nPING\r\n";
 
-/// The bytes of a command whose arguments are words with a space between each two, or the refusal; then
-/// the bytes of each way to pack it that gives others.
-fn packed_text(alloc: Global, words: &[u8]) -> Result<String, AllocError> {
-    let args = words_in(alloc, words)?;
-    let told = bytes_text(alloc, pack_args(alloc, &args))?;
+/// Returns the bytes of a command whose arguments are words with a space between each two, or the refusal. Adds the
+/// bytes of each other way to pack it, if they differ.
+fn pack_words(alloc: Global, words: &[u8]) -> Result<String, AllocError> {
+    let args = split_words(alloc, words)?;
+    let told = format_bytes(alloc, pack_args(alloc, &args))?;
     let mut outcome = told.clone()?;
-    let packed = bytes_text(alloc, pack_command(alloc, &args))?;
+    let packed = format_bytes(alloc, pack_command(alloc, &args))?;
     add_other_bytes(&mut outcome, &told, &packed)?;
-    let written = bytes_text(alloc, written_bytes(alloc, &args))?;
+    let written = format_bytes(alloc, write_command(alloc, &args))?;
     add_other_bytes(&mut outcome, &told, &written)?;
-    let added = bytes_text(alloc, added_bytes(alloc, &args))?;
+    let added = format_bytes(alloc, append_to_pipeline(alloc, &args))?;
     add_other_bytes(&mut outcome, &told, &added)?;
     Ok(outcome)
 }
@@ -596,8 +596,8 @@ fn add_other_bytes(outcome: &mut String, told: &str, other: &str) -> Result<(), 
     write!(outcome, "; {other}")
 }
 
-/// Bytes as text, or why there are none. Passes on the error that memory ran out.
-fn bytes_text(alloc: Global, packed: Result<Vec<u8>, PackError>) -> Result<String, AllocError> {
+/// Returns bytes as text, or why there are none. Passes on the error that memory ran out.
+fn format_bytes(alloc: Global, packed: Result<Vec<u8>, PackError>) -> Result<String, AllocError> {
     match packed {
         Ok(bytes) => {
             let shown = BStr::new(bytes.as_slice());
@@ -608,15 +608,16 @@ fn bytes_text(alloc: Global, packed: Result<Vec<u8>, PackError>) -> Result<Strin
     }
 }
 
-/// The bytes of a command writer after it wrote these arguments.
-fn written_bytes(alloc: Global, args: &Vec<Vec<u8>>) -> Result<Vec<u8>, PackError> {
+/// Returns the bytes of a command writer after it wrote these arguments.
+fn write_command(alloc: Global, args: &Vec<Vec<u8>>) -> Result<Vec<u8>, PackError> {
     let mut command = PackedCommand::new(alloc);
     args.write_redis_args(&mut command)?;
     command.to_bytes(alloc)
 }
 
-/// The bytes that are appended to others in a pipeline; all that it holds if the others are gone.
-fn added_bytes(alloc: Global, args: &Vec<Vec<u8>>) -> Result<Vec<u8>, PackError> {
+/// Appends a command to a pipeline that holds others. Returns the bytes that were added, or all of them if the
+/// others are gone.
+fn append_to_pipeline(alloc: Global, args: &Vec<Vec<u8>>) -> Result<Vec<u8>, PackError> {
     let mut pipeline = Vec::from_slice(alloc, PIPELINE)?;
     append_command(alloc, &mut pipeline, args)?;
     let bytes = pipeline.as_slice();
@@ -625,7 +626,7 @@ fn added_bytes(alloc: Global, args: &Vec<Vec<u8>>) -> Result<Vec<u8>, PackError>
 }
 
 /// Splits the words, with a space between each two. No bytes have no words.
-fn words_in(alloc: Global, words: &[u8]) -> Result<Vec<Vec<u8>>, AllocError> {
+fn split_words(alloc: Global, words: &[u8]) -> Result<Vec<Vec<u8>>, AllocError> {
     let mut args = Vec::new(alloc);
     if words.is_empty() {
         return Ok(args);

@@ -36,14 +36,14 @@ fn replicas_are_counted(rt: HostRuntime) {
     assert!(rt; wait(2, 1).read(rt.alloc(), Value::Nil).is_err());
 }
 
-/// The reply if the server's own file has it, and one replica's.
-fn both(alloc: Global) -> Result<Value, AllocError> {
+/// Returns the reply to WAITAOF if the writes are in the append only files of the server and of one replica.
+fn make_reply(alloc: Global) -> Result<Value, AllocError> {
     Ok(Value::Array(vec![in alloc; Value::Int(1), Value::Int(1)]?))
 }
 
 #[test]
 fn files_are_counted(rt: HostRuntime) {
-    let reply = both(rt.alloc()).expect(&rt, "memory");
+    let reply = make_reply(rt.alloc()).expect(&rt, "memory");
     check_same(&rt, wait_aof(1, 1, 1).read(rt.alloc(), reply), Ok((1, 1)));
     check_same(
         &rt,

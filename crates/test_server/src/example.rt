@@ -34,7 +34,7 @@ impl Handler for Count {
     }
 }
 
-/// A new worker.
+/// Returns a new worker. It makes its group, which begins with the first entry.
 fn worker_of(alloc: Global, consumer: &str) -> Result<Worker, Fail> {
     let mut settings = Settings::new(
         String::from_str(alloc, "k")?,
@@ -53,8 +53,8 @@ fn reply_of(alloc: Global, bytes: &[u8]) -> Result<Reply, Fail> {
     }
 }
 
-/// Returns the bytes of the reply to the command of this line.
-fn told(
+/// Runs the command of this line. Returns the bytes of its reply.
+fn run_command(
     alloc: Global,
     server: &mut Server,
     session: &mut Session,
@@ -76,7 +76,7 @@ fn my_worker_takes_each_entry(rt: HostRuntime) -> Result<(), Fail> {
     let mut server = Server::new(alloc);
     let mut session = Session::new(alloc, Protocol::Resp2);
     for line in ["XADD k 1-1 item tea", "XADD k 2-1 item cup"] {
-        let _id = told(alloc, &mut server, &mut session, line)?;
+        let _id = run_command(alloc, &mut server, &mut session, line)?;
     }
     let mut worker = worker_of(alloc, "ann")?;
     let mut handler = Count { done: 0 };
@@ -93,13 +93,13 @@ fn my_worker_takes_each_entry(rt: HostRuntime) -> Result<(), Fail> {
         let _progress = worker.answered_in_place(alloc, &answer, limits, &mut handler)?;
     }
     assert_eq!(rt; handler.done, 2);
-    let pending = told(alloc, &mut server, &mut session, "XPENDING k g")?;
+    let pending = run_command(alloc, &mut server, &mut session, "XPENDING k g")?;
     assert_eq!(rt; pending.as_str(), "*4\r\n:0\r\n$-1\r\n$-1\r\n*-1\r\n");
     Ok(())
 }
 
 /// Returns why settings with these names are refused, or `None` if they are made.
-fn refusal_of(
+fn check_names(
     alloc: Global,
     key: &str,
     group: &str,
@@ -114,14 +114,14 @@ fn refusal_of(
 #[test]
 fn empty_names_are_refused(rt: HostRuntime) -> Result<(), Fail> {
     let alloc = rt.alloc();
-    assert_eq!(rt; refusal_of(alloc, "k", "g", "ann")?, None);
-    assert_eq!(rt; refusal_of(alloc, "", "", "")?, Some(SettingsError::NoKey));
+    assert_eq!(rt; check_names(alloc, "k", "g", "ann")?, None);
+    assert_eq!(rt; check_names(alloc, "", "", "")?, Some(SettingsError::NoKey));
     assert_eq!(rt;
-        refusal_of(alloc, "k", "", "")?,
+        check_names(alloc, "k", "", "")?,
         Some(SettingsError::NoGroup)
     );
     assert_eq!(rt;
-        refusal_of(alloc, "k", "g", "")?,
+        check_names(alloc, "k", "g", "")?,
         Some(SettingsError::NoConsumer)
     );
     Ok(())

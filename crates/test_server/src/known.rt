@@ -5,8 +5,8 @@ use std::process::Abort;
 use worker_journal::known_ids::{FileError, KnownId, KnownIds, number_of, numbers_of_file};
 use worker_journal::{LogError, MemoryFile};
 
-/// The number of an id.
-fn id(ms: u64, seq: u64) -> u128 {
+/// Returns the number of an id: its milliseconds times 2^64, and its sequence number.
+fn to_u128(ms: u64, seq: u64) -> u128 {
     ms as u128 * 18_446_744_073_709_551_616 + seq as u128
 }
 
@@ -15,11 +15,11 @@ fn an_id_has_the_number_of_its_parts(rt: HostRuntime) {
     check_same(&rt, number_of(b"0-0"), Some(0));
     check_same(&rt, number_of(b"0-7"), Some(7));
     check_same(&rt, number_of(b"1-0"), Some(18_446_744_073_709_551_616));
-    check_same(&rt, number_of(b"12-34"), Some(id(12, 34)));
+    check_same(&rt, number_of(b"12-34"), Some(to_u128(12, 34)));
     check_same(
         &rt,
         number_of(b"1526919030474-55"),
-        Some(id(1_526_919_030_474, 55)),
+        Some(to_u128(1_526_919_030_474, 55)),
     );
     let last = b"18446744073709551615-18446744073709551615".as_slice();
     check_same(&rt, number_of(last), Some(u128::MAX));
@@ -50,7 +50,7 @@ fn another_text_has_none(rt: HostRuntime) {
 
 #[test]
 fn an_id_keeps_its_number_and_its_place(rt: HostRuntime) {
-    for number in [0u128, 7, id(1, 0), id(12, 34), u128::MAX] {
+    for number in [0u128, 7, to_u128(1, 0), to_u128(12, 34), u128::MAX] {
         let id = KnownId::new(number, 340);
         check_same(&rt, id.number(), number);
         check_same(&rt, id.place(), 340);
@@ -75,6 +75,7 @@ fn check_known(
     }
 }
 
+/// Checks ids that were known from the start, and ids that were added to them.
 fn fill(rt: &(impl AllocGlobal + Abort)) -> Result<(), AllocError> {
     let mut told = Vec::new(rt.alloc());
     for (number, place) in [(9u128, 0usize), (3, 8), (5, 16)] {
@@ -120,7 +121,7 @@ fn nothing_is_known_at_first(rt: HostRuntime) {
 }
 
 /// Returns the ids of the lines of a file with these bytes.
-fn told_by(
+fn read_ids(
     rt: &(impl AllocGlobal + Abort),
     bytes: &[u8],
     json: bool,
@@ -138,15 +139,17 @@ fn check_ids(rt: &impl Abort, told: &[KnownId], ids: &[(u128, usize)]) {
     }
 }
 
-fn check_told(rt: &(impl AllocGlobal + Abort), bytes: &[u8], json: bool, ids: &[(u128, usize)]) {
-    match told_by(rt, bytes, json) {
+/// Checks the ids of a file of these bytes, and the offsets of their lines.
+fn check_file(rt: &(impl AllocGlobal + Abort), bytes: &[u8], json: bool, ids: &[(u128, usize)]) {
+    match read_ids(rt, bytes, json) {
         Ok(told) => check_ids(rt, &told, ids),
         Err(error) => panic!(rt; "{error}"),
     }
 }
 
-fn check_untold(rt: &(impl AllocGlobal + Abort), bytes: &[u8], json: bool, line: u64) {
-    match told_by(rt, bytes, json) {
+/// Checks that a file of these bytes is refused, since the line of this number has no entry.
+fn check_no_entry(rt: &(impl AllocGlobal + Abort), bytes: &[u8], json: bool, line: u64) {
+    match read_ids(rt, bytes, json) {
         Err(FileError::NoEntry(number)) => check_same(rt, number, line),
         _ => panic!(rt; "there is an id in line {line}"),
     }
@@ -154,19 +157,29 @@ fn check_untold(rt: &(impl AllocGlobal + Abort), bytes: &[u8], json: bool, line:
 
 #[test]
 fn lines_of_tabs_tell_ids(rt: HostRuntime) {
-    check_told(&rt, b"", false, [].as_slice());
-    check_told(&rt, b"1-0\tn\tv\n", false, [(id(1, 0), 0usize)].as_slice());
+    check_file(&rt, b"", false, [].as_slice());
+    check_file(
+        &rt,
+        b"1-0\tn\tv\n",
+        false,
+        [(to_u128(1, 0), 0usize)].as_slice(),
+    );
     // The lines have 3, 7 and 6 bytes, and an end each.
-    check_told(
+    check_file(
         &rt,
         b"3-1\n1-0\tn\tv\n2-7\tn\t\n",
         false,
-        [(id(3, 1), 0usize), (id(1, 0), 4), (id(2, 7), 12)].as_slice(),
+        [
+            (to_u128(3, 1), 0usize),
+            (to_u128(1, 0), 4),
+            (to_u128(2, 7), 12),
+        ]
+        .as_slice(),
     );
-    check_untold(&rt, b"1-0\tn\tv\n\n", false, 2);
-    check_untold(&rt, b"no entry\n", false, 1);
-    check_untold(&rt, b"1-0\n01-0\tn\tv\n3-0\n", false, 2);
-    check_untold(&rt, b"{\"id\":\"1-0\",\"fields\":[]}\n", false, 1);
+    check_no_entry(&rt, b"1-0\tn\tv\n\n", false, 2);
+    check_no_entry(&rt, b"no entry\n", false, 1);
+    check_no_entry(&rt, b"1-0\n01-0\tn\tv\n3-0\n", false, 2);
+    check_no_entry(&rt, b"{\"id\":\"1-0\",\"fields\":[]}\n", false, 1);
 }
 
 #[test]
@@ -174,27 +187,37 @@ fn lines_of_json_tell_ids(rt: HostRuntime) {
     let lines =
         b"{\"id\":\"1-0\",\"fields\":[]}\n{\"id\":\"0-2\",\"fields\":[[\"n\",\"v\"]]}\n".as_slice();
     // The first line has 24 bytes and its end.
-    check_told(&rt, lines, true, [(id(1, 0), 0usize), (2, 25)].as_slice());
-    check_untold(&rt, b"{\"id\":\"1-0\"}\n", true, 1);
-    check_untold(&rt, b"{\"id\":\"\\u0031-0\",\"fields\":[]}\n", true, 1);
-    check_untold(&rt, b"{\"id\":1-0\",\"fields\":[]}\n", true, 1);
-    check_untold(&rt, b"1-0\tn\tv\n", true, 1);
+    check_file(
+        &rt,
+        lines,
+        true,
+        [(to_u128(1, 0), 0usize), (2, 25)].as_slice(),
+    );
+    check_no_entry(&rt, b"{\"id\":\"1-0\"}\n", true, 1);
+    check_no_entry(&rt, b"{\"id\":\"\\u0031-0\",\"fields\":[]}\n", true, 1);
+    check_no_entry(&rt, b"{\"id\":1-0\",\"fields\":[]}\n", true, 1);
+    check_no_entry(&rt, b"1-0\tn\tv\n", true, 1);
 }
 
 #[test]
 fn what_has_no_end_is_no_line(rt: HostRuntime) {
-    check_told(
+    check_file(
         &rt,
         b"1-0\tn\tv\n2-0",
         false,
-        [(id(1, 0), 0usize)].as_slice(),
+        [(to_u128(1, 0), 0usize)].as_slice(),
     );
-    check_told(&rt, b"no entry", false, [].as_slice());
-    check_told(&rt, b"1-0\tn\tv\n{", false, [(id(1, 0), 0usize)].as_slice());
+    check_file(&rt, b"no entry", false, [].as_slice());
+    check_file(
+        &rt,
+        b"1-0\tn\tv\n{",
+        false,
+        [(to_u128(1, 0), 0usize)].as_slice(),
+    );
 }
 
-/// A file that is read in several pieces: lines cross the ends of pieces.
-fn long_file(rt: &(impl AllocGlobal + Abort)) -> Result<Vec<u8>, AllocError> {
+/// Returns the bytes of a file that is read in several pieces. Lines cross the ends of pieces.
+fn make_long_file(rt: &(impl AllocGlobal + Abort)) -> Result<Vec<u8>, AllocError> {
     let mut bytes = Vec::new(rt.alloc());
     for number in 0..20_000u64 {
         let line = format!(in rt.alloc();
@@ -208,12 +231,16 @@ fn long_file(rt: &(impl AllocGlobal + Abort)) -> Result<Vec<u8>, AllocError> {
     Ok(bytes)
 }
 
+/// Checks each id of the long file, and the offsets of three lines.
 fn check_long(rt: &(impl AllocGlobal + Abort)) -> Result<(), FileError> {
-    let bytes = long_file(rt)?;
-    let told = told_by(rt, &bytes, false)?;
+    let bytes = make_long_file(rt)?;
+    let told = read_ids(rt, &bytes, false)?;
     assert_eq!(rt; told.len(), 20_000);
     for number in 0..20_000usize {
-        assert_eq!(rt; told[number].number(), id(number as u64, number as u64 % 7));
+        assert_eq!(rt;
+            told[number].number(),
+            to_u128(number as u64, number as u64 % 7)
+        );
     }
     // A line has 33 bytes with its end, and its number twice beside these: ten of one digit, 90 of two, and so on.
     assert_eq!(rt; told[1].place(), 35);
@@ -232,8 +259,12 @@ fn refused_memory_changes_nothing_else(rt: HostRuntime) {
     match fill(&rt) {
         Ok(()) | Err(AllocError) => {}
     }
-    match told_by(&rt, b"1-0\tn\tv\n2-0\n3-0", false) {
-        Ok(told) => check_ids(&rt, &told, [(id(1, 0), 0usize), (id(2, 0), 8)].as_slice()),
+    match read_ids(&rt, b"1-0\tn\tv\n2-0\n3-0", false) {
+        Ok(told) => check_ids(
+            &rt,
+            &told,
+            [(to_u128(1, 0), 0usize), (to_u128(2, 0), 8)].as_slice(),
+        ),
         Err(error) => assert!(rt; matches!(error, FileError::Log(LogError::Memory))),
     }
 }

@@ -6,8 +6,8 @@ use worker_table::row_table::{
     put_all_posted,
 };
 
-/// A row with a text.
-fn row_of(alloc: Global, key: u64, text: &[u8]) -> Result<Row, AllocError> {
+/// Returns a row of this key with one text.
+fn make_row(alloc: Global, key: u64, text: &[u8]) -> Result<Row, AllocError> {
     let mut cells = Vec::new(alloc);
     cells.push(Cell::Text(text.to_vec(alloc)?))?;
     Ok(Row {
@@ -21,7 +21,7 @@ fn row_of(alloc: Global, key: u64, text: &[u8]) -> Result<Row, AllocError> {
 fn put(alloc: Global, table: &mut MemoryTable, texts: &[(u64, &[u8])]) -> Result<(), TableError> {
     let mut rows = Vec::new(alloc);
     for (key, text) in texts {
-        rows.push(row_of(alloc, *key, text)?)?;
+        rows.push(make_row(alloc, *key, text)?)?;
     }
     put_all(alloc, table, &rows)
 }
@@ -65,7 +65,7 @@ fn put_posted(alloc: Global, outbox: &mut MemoryOutbox, keys: &[u64]) -> Result<
     let mut rows = Vec::new(alloc);
     for key in keys {
         rows.push(PostedRow {
-            row: row_of(alloc, *key, b"a")?,
+            row: make_row(alloc, *key, b"a")?,
             command: b"command".to_vec(alloc)?,
             question: b"question".to_vec(alloc)?,
         })?;

@@ -9,7 +9,7 @@ use std::io;
 use std::io::{ErrorKind, Read, Write};
 use std::test::Fail;
 
-/// A connection to the server.
+/// Returns a connection to the server.
 fn connected(
     alloc: Global,
     loopback: &Loopback,
@@ -30,7 +30,7 @@ fn add_three<R: Read + Drop, W: Write + Drop>(
     Ok(())
 }
 
-/// How many entries a worker handles in eight rounds.
+/// Returns how many entries a worker handles in eight rounds.
 fn drained<R: Read + Drop, W: Write + Drop>(
     alloc: Global,
     connection: &mut Connection<R, W>,
@@ -41,7 +41,7 @@ fn drained<R: Read + Drop, W: Write + Drop>(
     Ok(handler.done)
 }
 
-/// How many entries are pending, of ten at most.
+/// Returns how many entries are pending, of ten at most.
 fn pending<R: Read + Drop, W: Write + Drop>(
     alloc: Global,
     connection: &mut Connection<R, W>,
@@ -63,8 +63,8 @@ fn my_worker_drains_what_another_connection_adds(rt: HostRuntime) -> Result<(), 
     Ok(())
 }
 
-/// How many of eight round trips carried an acknowledgement together with the next command.
-fn pipelined<R: Read + Drop, W: Write + Drop>(
+/// Returns how many of eight round trips carried an acknowledgement together with the next command.
+fn count_pipelined<R: Read + Drop, W: Write + Drop>(
     alloc: Global,
     connection: &mut Connection<R, W>,
     handler: &mut Count,
@@ -87,14 +87,14 @@ fn an_acknowledgement_goes_out_with_the_next_question(rt: HostRuntime) -> Result
     let mut connection = connected(alloc, &loopback)?;
     add_three(alloc, &mut connection)?;
     let mut handler = Count { done: 0 };
-    assert_eq!(rt; pipelined(alloc, &mut connection, &mut handler)?, 1);
+    assert_eq!(rt; count_pipelined(alloc, &mut connection, &mut handler)?, 1);
     assert_eq!(rt; handler.done, 3);
     assert_eq!(rt; pending(alloc, &mut connection)?, 0);
     Ok(())
 }
 
-/// How many entries are pending before and after the end of a worker that handled three.
-fn pending_around_the_end<R: Read + Drop, W: Write + Drop>(
+/// Returns how many entries are pending before and after the end of a worker that handled three.
+fn count_pending_around_end<R: Read + Drop, W: Write + Drop>(
     alloc: Global,
     connection: &mut Connection<R, W>,
     handler: &mut Count,
@@ -113,7 +113,7 @@ fn a_worker_that_ends_acknowledges_what_is_done(rt: HostRuntime) -> Result<(), F
     let mut connection = connected(alloc, &loopback)?;
     add_three(alloc, &mut connection)?;
     let mut handler = Count { done: 0 };
-    let (before, after) = pending_around_the_end(alloc, &mut connection, &mut handler)?;
+    let (before, after) = count_pending_around_end(alloc, &mut connection, &mut handler)?;
     assert_eq!(rt; handler.done, 3);
     assert_eq!(rt; before, 3);
     assert_eq!(rt; after, 0);
@@ -126,18 +126,21 @@ fn an_end_that_breaks_says_so(rt: HostRuntime) -> Result<(), Fail> {
     let loopback = Loopback::new(alloc, Server::new(alloc))?;
     let (mut reader, mut writer) = loopback.connect()?;
     let mut room = [0u8; 64];
-    assert_eq!(rt; failed(reader.read(&mut room)), Some(ErrorKind::WouldBlock));
+    assert_eq!(rt;
+        to_error_kind(reader.read(&mut room)),
+        Some(ErrorKind::WouldBlock)
+    );
     writer.break_after(8);
     assert_eq!(rt; writer.write(b"PING\r\nPING\r\n")?, 8);
     assert_eq!(rt;
-        failed(writer.write(b"NG\r\n")),
+        to_error_kind(writer.write(b"NG\r\n")),
         Some(ErrorKind::BrokenPipe)
     );
     reader.break_after(3);
     assert_eq!(rt; reader.read(&mut room)?, 3);
     assert_eq!(rt; &room[..3], b"+PO".as_slice());
     assert_eq!(rt;
-        failed(reader.read(&mut room)),
+        to_error_kind(reader.read(&mut room)),
         Some(ErrorKind::ConnectionReset)
     );
     Ok(())
@@ -156,14 +159,14 @@ fn bytes_that_are_no_command_end_a_connection(rt: HostRuntime) -> Result<(), Fai
         "-ERR Protocol error: invalid multibulk length\r\n"
     );
     assert_eq!(rt;
-        failed(writer.write(b"PING\r\n")),
+        to_error_kind(writer.write(b"PING\r\n")),
         Some(ErrorKind::BrokenPipe)
     );
     Ok(())
 }
 
-/// The kind of the error, if there is one.
-fn failed(outcome: io::Result<usize>) -> Option<ErrorKind> {
+/// Returns the kind of the error, if there is one.
+fn to_error_kind(outcome: io::Result<usize>) -> Option<ErrorKind> {
     match outcome {
         Ok(_len) => None,
         Err(error) => Some(error.kind()),
