@@ -27,10 +27,9 @@ Place = Union[str, Tuple[str, int]]
 # What a tool says at --help that ends as all do.
 STATUS = ("\n\nExit status: 0 if all is as it has to be, 1 if not; 2 for other words, or if something that it wants is "
           "not there.")
+# The pages that tools/check/list-promises and tools/check/list-vectors make, whose words are those of the sources.
+MADE = {"docs/COMMANDS.md", "docs/internals/PROVED.md", "docs/internals/VECTORS.md"}
 SIMPLE, SIZED = (b"+", b"-", b"_", b":", b",", b"#", b"("), (b"$", b"=", b"!", b"*", b"~", b">", b"%", b"|")
-
-
-# Words, and what a tool wants.
 
 
 def words_of(doc: Optional[str], *places: Place, **options: Any) -> argparse.Namespace:
@@ -43,26 +42,19 @@ def words_of(doc: Optional[str], *places: Place, **options: Any) -> argparse.Nam
     parser = argparse.ArgumentParser()
     told = (doc or "").strip() + ("" if "Exit status" in (doc or "") else STATUS)
     parser.format_help = parser.format_usage = lambda: f"{told}\n"  # type: ignore[method-assign]
+    number = lambda text: int(text) if text.isdigit() else parser.error(f"no number: {text}")
     for place in places:
-        name = place.rstrip("?*+") if isinstance(place, str) else place[0]
-        more: Dict[str, Any] = {"nargs": place[len(name):] or None} if isinstance(place, str) else {
-            "nargs": "?", "default": place[1], "type": natural}
-        parser.add_argument(name, **more)
-    for name, usual in options.items():
+        if isinstance(place, str):
+            name = place.rstrip("?*+")
+            parser.add_argument(name, nargs=place[len(name):] or None)
+        else:
+            parser.add_argument(place[0], nargs="?", default=place[1], type=number)
+    for option, usual in options.items():
         kind: Dict[str, Any] = {"default": usual, "type": str if usual is None else type(usual)}
-        if usual is False:
-            kind = {"action": "store_true"}
-        if isinstance(usual, list):
-            kind = {"nargs": argparse.REMAINDER}
-        parser.add_argument(f"--{name.replace('_', '-')}", **kind)
+        if usual is False or isinstance(usual, list):
+            kind = {"action": "store_true"} if usual is False else {"nargs": argparse.REMAINDER}
+        parser.add_argument(f"--{option.replace('_', '-')}", **kind)
     return parser.parse_args()
-
-
-def natural(text: str) -> int:
-    """A number without a sign."""
-    if not text.isdigit():
-        raise ValueError
-    return int(text)
 
 
 def fail(text: object) -> Any:
@@ -73,12 +65,11 @@ def fail(text: object) -> Any:
 
 def want(*names: str) -> None:
     """Ends with 2 if one of these programs is not there; those of this repository are found as the command does it."""
-    lacking = [name for name in names if shutil.which(name) is None and not name.startswith("stream_")]
+    lacking = [name for name in names if not name.startswith("stream_") and shutil.which(name) is None]
     if lacking:
         fail(f"not there: {', '.join(lacking)}")
-    for name in names:
-        if name.startswith("stream_"):
-            find_program(name)
+    for name in filter(re.compile("stream_").match, names):
+        find_program(name)
 
 
 def program_of(crate: str, given: Optional[str] = None) -> str:
@@ -123,9 +114,6 @@ def python_with(module: str) -> Optional[str]:
         if os.path.exists(python) and not subprocess.run(command, stderr=subprocess.DEVNULL, check=False).returncode:
             return python
     return None
-
-
-# Files.
 
 
 def content(path: str) -> Optional[bytes]:
@@ -182,17 +170,9 @@ def crates_below(*names: str) -> List[str]:
     return found
 
 
-# Clocks and tables.
-
-
-def worked() -> float:
-    """The seconds of a processor that the children took which ended."""
-    used = resource.getrusage(resource.RUSAGE_CHILDREN)
-    return used.ru_utime + used.ru_stime
-
-
 def taken(work: Callable[[], object]) -> Tuple[float, float]:
     """Does some work. Returns the seconds of the clock, and those of a processor in children, that it took."""
+    worked = lambda: sum(resource.getrusage(resource.RUSAGE_CHILDREN)[:2])
     before, begun = worked(), time.monotonic()
     work()
     return time.monotonic() - begun, worked() - before
@@ -215,8 +195,8 @@ def requests_of(command: Sequence[str], shim: str) -> List[int]:
 
 def instructions_of(command: Sequence[str]) -> int:
     """How many instructions a run takes, by valgrind."""
-    cachegrind = ["valgrind", "--tool=cachegrind", "--cache-sim=no", "--cachegrind-out-file=/dev/null"]
-    return figures([*cachegrind, *command], r"I +refs: +([\d,]+)")[0]
+    return figures(["valgrind", "--tool=cachegrind", "--cache-sim=no", "--cachegrind-out-file=/dev/null", *command],
+                   r"I +refs: +([\d,]+)")[0]
 
 
 def in_turn(ways: Dict[Any, Callable[[], Sequence[float]]], runs: int,
@@ -263,9 +243,6 @@ def until(holds: Callable[[], object], seconds: float, what: str) -> None:
                 return
         time.sleep(0.1)
     raise TimeoutError(f"{what}: not within {seconds} seconds")
-
-
-# Processes and threads.
 
 
 class Process(NamedTuple):
@@ -319,9 +296,6 @@ def join(threads: Iterable[threading.Thread]) -> None:
         thread.join()
 
 
-# Connections.
-
-
 def named(reply: Sequence[Any]) -> Dict[Any, Any]:
     """A reply of names and values, or the fields of an entry, as a dict."""
     return dict(zip(reply[::2], reply[1::2]))
@@ -344,11 +318,6 @@ def ask_all(server: servers.Server, commands: Iterable[Sequence[resp.Word]]) -> 
     """Sends commands over a connection of their own, and returns all replies."""
     with server.open() as connection:
         return resp.ask_all(connection, commands)
-
-
-def make_group(server: servers.Server, key: str, group: str, start: str = "0") -> None:
-    """Makes a group anew, whose entries are those after this id."""
-    ask_all(server, [["XGROUP", "DESTROY", key, group], ["XGROUP", "CREATE", key, group, start]])
 
 
 def add_orders(server: servers.Server, number: int) -> None:
@@ -390,8 +359,7 @@ def raw_replies(connection: socket.socket, commands: Iterable[Sequence[resp.Word
     connection.sendall(b"".join(map(resp.encode, [*commands, ["ECHO", "end-of-replies"]])))
     data, mark = b"", resp.encode_reply("end-of-replies")
     while not data.endswith(mark):
-        piece = connection.recv(1 << 20)
-        if not piece:
+        if not (piece := connection.recv(1 << 20)):
             raise ConnectionError("the server closed the connection")
         data += piece
     return data[:-len(mark)]
@@ -421,9 +389,7 @@ def reply_at(data: bytes, at: int = 0) -> Tuple[Tuple[bytes, Any], int]:
 
 def replies_in(data: bytes) -> List[bytes]:
     """The bytes of each reply, one after the other; ValueError if they are no whole ones."""
-    found, at = [], 0
-    while at < len(data):
-        end = reply_at(data, at)[1]
-        found.append(data[at:end])
-        at = end
-    return found
+    ends = [0]
+    while ends[-1] < len(data):
+        ends.append(reply_at(data, ends[-1])[1])
+    return [data[at:end] for at, end in zip(ends, ends[1:])]
