@@ -15,7 +15,6 @@ from typing import Any, Callable, Dict, Iterable, Iterator, List, Optional, Sequ
 from shared import TOOL, content, program_of, resp, text_of, words_of, write
 
 CLOSED = "the server closed the connection"
-Check = Tuple[str, Sequence[str]]  # the name of a session, and what went otherwise in it
 
 
 @dataclasses.dataclass
@@ -37,11 +36,9 @@ class Session:
     protocol = 3  # of the replies
 
     def replies(self) -> bytes:
-        """What the server sends."""
         return as_sent([*self.talk[1::2], *self.unasked], self.protocol)
 
     def asked(self) -> bytes:
-        """What the program has to send."""
         return b"".join(resp.encode(words_in(command)) for command in self.talk[::2])
 
     def files(self) -> Dict[str, Tuple[Optional[bytes], Optional[bytes]]]:
@@ -74,7 +71,6 @@ def weave(asked: Sequence[Any], replies: Sequence[Any]) -> List[Any]:
 
 
 def words_in(line: Union[str, List[Any]]) -> List[Any]:
-    """The words of a line."""
     return line.split() if isinstance(line, str) else line
 
 
@@ -94,41 +90,48 @@ def differences(**pairs: Tuple[Any, Any]) -> List[str]:
     return [f"{what}: {end(got)}, not {end(right)}" for what, (got, right) in pairs.items() if got != right]
 
 
-def judge(crate: str, tool: Dict[str, Any], more: Callable[[str], Iterable[Check]] = lambda program: ()) -> int:
-    """Plays all sessions of a tool, whose names these are, with its program: those of each of its functions whose name
-    begins with sessions_. Then more checks. Prints what goes otherwise. Returns the status of the tool."""
+def outcomes(tool: Dict[str, Any], program: str) -> Iterator[Tuple[str, Any]]:
+    """The name of each session and each check of a tool, and what goes otherwise in it."""
+    for name, work in tool.items():
+        if name.startswith("sessions_"):
+            yield from ((f"{session.name} ({session.words})", session.differs(program)) for session in work())
+        elif name.startswith("check_"):
+            yield work.__doc__, work(program)
+
+
+def judge(crate: str, tool: Dict[str, Any]) -> int:
+    """Plays the sessions that the functions sessions_* of a tool make, with its program, and does its checks. These are
+    functions check_*, with the name of the check as their text; one returns a text if it did not run, which says why.
+    Prints what goes otherwise. Returns the status of the tool."""
     program = program_of(crate, words_of(tool["__doc__"], "PROGRAM?").PROGRAM)
-    played = ((f"{session.name} ({session.words})", session.differs(program))
-              for name, sessions in tool.items() if name.startswith("sessions_") for session in sessions())
     run = failed = 0
-    for name, wrong in itertools.chain(played, more(program)):
-        run, failed = run + 1, failed + bool(wrong)
-        for line in wrong:
-            print(f"{TOOL}: {name}: {line}")
+    for name, wrong in outcomes(dict(tool), program):
+        if isinstance(wrong, str):
+            print(f"{TOOL}: NOT RUN, since {wrong}: that {name}")
+            continue
+        lines = [f"{TOOL}: {name}: {line}" for line in wrong]
+        print("\n".join(lines), end="\n" if lines else "")
+        run, failed = run + 1, failed + bool(lines)
     print(f"{TOOL}: {run} sessions, {failed} went otherwise")
     return 1 if failed else 0
 
 
-def checks_of_disk(program: str, words: str, coming: bytes, what: str) -> Iterator[Check]:
-    """With strace: a file whose name begins with f is written, the disk takes that in, and then an XACK is sent."""
-    name = f"the disk has a {what} before its entry is acknowledged"
+def disk_differs(program: str, words: str, coming: bytes) -> Union[str, List[str]]:
+    """What goes otherwise in this, seen by strace: a file whose name begins with f is written, the disk takes that in,
+    and then an XACK is sent."""
     if not shutil.which("strace"):
-        print(f"{TOOL}: NOT RUN, since strace is not there: that {name}")
-        return
+        return "strace is not there"
     with tempfile.TemporaryDirectory() as folder:
-        traced = "trace=write,writev,pwrite64,pwritev,fdatasync,fsync"
-        command = ["strace", "-f", "-y", "-s", "999", "-e", traced, "-o", "calls", program, *words.split()]
+        command = ["strace", "-f", "-y", "-s", "999", "-o", "calls", "-e",
+                   "trace=write,writev,pwrite64,pwritev,fdatasync,fsync", program, *words.split()]
         subprocess.run(command, input=coming, capture_output=True, timeout=60, cwd=folder)
         calls = re.findall(r"(\w+)\(\d+<([^>]*)>(.*)", text_of(f"{folder}/calls"))
-    acknowledged = next((at for at, call in enumerate(calls) if "XACK" in call[2]), 0)
-    before = [(call, os.path.basename(file)) for call, file, _ in calls[:acknowledged]]
-    writes = [at for at, (call, file) in enumerate(before) if "write" in call and file.startswith("f")]
-    is_taken_in = writes and any(call.endswith("sync") and file == before[writes[-1]][1]
-                                 for call, file in before[writes[-1]:])
-    yield name, [] if is_taken_in else [f"no call has the disk take in the last write before the XACK: {calls!r}"]
-
-
-# What is said.
+    before = list(itertools.takewhile(lambda call: "XACK" not in call[2], calls))
+    writes = [at for at, (call, file, _) in enumerate(before) if "write" in call and os.path.basename(file)[:1] == "f"]
+    if writes and before != calls and any(call.endswith("sync") and file == before[writes[-1]][1]
+                                          for call, file, _ in before[writes[-1]:]):
+        return []
+    return [f"no call has the disk take in the last write before the XACK: {calls!r}"]
 
 
 def error(text: str, cause: Optional[str] = None, most: int = 120) -> str:
@@ -137,15 +140,22 @@ def error(text: str, cause: Optional[str] = None, most: int = 120) -> str:
     return told if cause is None else f"{told}\nCaused by:\n    {cause}\n"
 
 
-def counted(number: int, one: str, many: str) -> str:
-    """A number of things."""
-    return f"{number} {one if number == 1 else many}"
+def refusal(text: str, hint: str = "") -> Tuple[bytes, str]:
+    """A reply that is an error, and what is said of it."""
+    return f"-{text}\r\n".encode(), "\n".join([f"the server replied {text}", *[hint] * bool(hint)])
 
 
-def in_batches(entries: int, batches: int, what: Tuple[str, str] = ("entry", "entries")) -> str:
+def in_batches(entries: int, batches: int, what: str = "entry entries") -> str:
     """How counts are told."""
-    return f"{counted(entries, *what)} in {counted(batches, 'batch', 'batches')}"
+    one, many = what.split()
+    return f"{entries} {one if entries == 1 else many} in {batches} {'batch' if batches == 1 else 'batches'}"
 
+
+# Replies that end each program, and those that confirm no WAIT for two replicas, and what is said of them.
+ENDS = [(b"HTTP/1.1 400 Bad Request\r\n\r\n", "the server does not speak the protocol: unknown type of a value"),
+        (b"-ERR \x1b[2J\x07\xff\r\n", "the server replied ERR ?[2J?\ufffd"), refusal("READONLY x"), (b"", CLOSED)]
+UNCONFIRMED = [*((number, f"{number} replicas confirmed, and more are wanted") for number in (1, 0)),
+               (b"-ERR x\r\n", "WAIT: the server replied ERR x"), (b"", "WAIT: " + CLOSED)]
 
 # What the crate clap tells of words, by kinds of rows: with the value that is refused, an option, and more.
 REFUSED = {
@@ -185,16 +195,15 @@ def on_words(make: Callable[..., Session], program: str, places: str, refused: s
              helps: Sequence[str] = (), versions: Sequence[str] = (), usage: str = "",
              **more: Any) -> Iterator[Session]:
     """The sessions of words that are refused, and of those that ask for help or for the version."""
+    version = f"{program} {text_of('VERSION').strip()} (unproved, built from a checkout)\n"
     for words, said in refusals(program, places, refused, usage):
         yield make("other words are refused", words, [], said, 2, **more)
-    for words in helps:
-        yield make("help is told on standard error", words, [], told, 0, **more)
-    for words in versions:
-        yield make("the version is told on standard error", words, [], version(program), 0, **more)
+    for words in (*helps, *versions):
+        name, said = ("help", told) if words in helps else ("the version", version)
+        yield make(f"{name} is told on standard error", words, [], said, 0, **more)
 
 
 def help_of(about: str, usage: str, arguments: Dict[str, str], options: Dict[str, str]) -> str:
-    """What a program says at --help."""
     options = {**{f"    {option}": told for option, told in options.items()},
                "-h, --help": "Print help", "-V, --version": "Print version"}
     listed = lambda rows: "".join(f"  {name:<{max(map(len, rows))}}  {told}\n" for name, told in rows.items())
@@ -205,18 +214,12 @@ def help_of(about: str, usage: str, arguments: Dict[str, str], options: Dict[str
 
 def open_metrics(metrics: Dict[str, Tuple[str, str]], samples: Iterable[str]) -> str:
     """The text of OpenMetrics with these samples, each after the head of its metric: its kind, and what it is."""
-    text = ""
+    lines = []
     for sample, (kind, told) in metrics.items():
         name = sample.removesuffix("_total")
-        unit = f"# UNIT {name} seconds\n" if name.endswith("_seconds") else ""
-        lines = (f"{line}\n" for line in samples if line.startswith(sample + "{"))
-        text += f"# TYPE {name} {kind}\n{unit}# HELP {name} {told}\n{''.join(lines)}"
-    return text + "# EOF\n"
-
-
-def version(program: str) -> str:
-    """What a program that is built from a checkout says of its version."""
-    return f"{program} {text_of('VERSION').strip()} (unproved, built from a checkout)\n"
+        lines += [f"# TYPE {name} {kind}", *[f"# UNIT {name} seconds"] * name.endswith("_seconds"),
+                  f"# HELP {name} {told}", *(line for line in samples if line.startswith(sample + "{"))]
+    return "\n".join([*lines, "# EOF\n"])
 
 
 # Options of all workers.
