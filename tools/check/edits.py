@@ -1,6 +1,7 @@
 """Wrong bodies, as tools/check/refused and tools/check/planted try them: each in a copy of its crate, where the prover
 is asked for the functions that are named alone, and for those that they call. So what a body costs does not grow
 with the crate. 'rt ci' would prove a crate once more for bodies in a folder must-fail/."""
+import glob
 import os
 import re
 import shutil
@@ -24,10 +25,8 @@ class Unfit(Exception):
 def shelves(name):
     """Returns the files of the shelf of this name, by crate."""
     found = {}
-    for crate in sorted(os.listdir(f"{ROOT}/crates")):
-        folder = f"{ROOT}/crates/{crate}/{name}"
-        if os.path.isdir(folder):
-            found[crate] = sorted(f"{folder}/{name}" for name in os.listdir(folder))
+    for edit in sorted(glob.glob(f"{ROOT}/crates/*/{name}/*")):
+        found.setdefault(edit.split("/")[-3], []).append(edit)
     return found
 
 
@@ -42,16 +41,13 @@ def groups_of(bodies, is_apart):
     """Returns bodies in groups that are tried at once: each of a group is apart from the others of it."""
     groups = []
     for body in bodies:
-        group = next((it for it in groups if all(is_apart(body, other) for other in it)), None)
-        if group is None:
-            groups.append([body])
-        else:
-            group.append(body)
+        group = next((it for it in groups if all(is_apart(body, other) for other in it)), [])
+        groups += [] if group else [group]
+        group.append(body)
     return groups
 
 
 def lanes():
-    """Returns how many checks go side by side."""
     return int(os.environ.get("RT_JOBS") or len(os.sched_getaffinity(0)))
 
 
@@ -121,8 +117,7 @@ def module_of(path):
 
 
 def functions_in(text):
-    """Returns the functions of a file: of each its name, the type of its impl if it is in one, and where it begins and
-    ends."""
+    """Returns of each function of a file its name, the type of its impl if it is in one, and where it begins and ends."""
     found = []
     for head in re.finditer(r"(?m)^( *)(?:[a-z]+(?:\([a-z]+\))? |extern \"C\" )*fn (\w+)", text):
         end = re.compile(rf"(?m)^{head[1]}}}").search(text, head.end())
@@ -134,7 +129,6 @@ def functions_in(text):
 
 
 def sources(crate):
-    """Returns the path and the text of each file of src/ of the crate."""
     folder = f"{ROOT}/crates/{crate}"
     return [(os.path.relpath(f"{at}/{name}", folder), read(f"{at}/{name}"))
             for at, _, names in os.walk(f"{folder}/src") for name in names]
@@ -179,16 +173,14 @@ TOLD = re.compile(r"(?:note: )?(?:\./)?(\S+?):(\d+):\d+: ")
 
 
 def reasons(said):
-    """Returns the reasons that a check gave why something is not proved: for each its file, its line in it, and the
-    text."""
+    """Returns the reasons that a check gave why something is not proved: for each its file, its line, and the text."""
     found = [(TOLD.match(line), line) for line in said]
     return [(at[1], int(at[2]), line) for at, line in found
             if at and (": error" in line or "it is not proved" in line or line.startswith("note: "))]
 
 
 def first_of(reasons):
-    """Returns the first of some reasons. If there are none but that a proof names what the edit took away, it says
-    so."""
+    """Returns the first of some reasons; if they are only that a proof names what the edit took away, it says so."""
     names = re.compile(r"(note: )?(\./)?proofs/.*(has no field|is not in scope|has no `|was not admitted|depends? on)")
     first = next((line for _, _, line in reasons if not names.match(line)), "")
     if reasons and not first:
