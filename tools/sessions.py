@@ -15,6 +15,7 @@ from typing import Any, Callable, Dict, Iterable, Iterator, List, Optional, Sequ
 from shared import TOOL, content, program_of, resp, text_of, words_of, write
 
 CLOSED = "the server closed the connection"
+PIPES = dict(stdin=subprocess.PIPE, stdout=subprocess.PIPE, stderr=subprocess.PIPE)
 
 
 @dataclasses.dataclass
@@ -100,9 +101,8 @@ def outcomes(tool: Dict[str, Any], program: str) -> Iterator[Tuple[str, Any]]:
 
 
 def judge(crate: str, tool: Dict[str, Any]) -> int:
-    """Plays the sessions that the functions sessions_* of a tool make, with its program, and does its checks. These are
-    functions check_*, with the name of the check as their text; one returns a text if it did not run, which says why.
-    Prints what goes otherwise. Returns the status of the tool."""
+    """Plays the sessions that the functions sessions_* of a tool make, with its program. Then its checks: functions
+    check_*, whose text is their name; one that did not run returns why. Says what goes otherwise; the tool's status."""
     program = program_of(crate, words_of(tool["__doc__"], "PROGRAM?").PROGRAM)
     run = failed = 0
     for name, wrong in outcomes(dict(tool), program):
@@ -117,8 +117,7 @@ def judge(crate: str, tool: Dict[str, Any]) -> int:
 
 
 def disk_differs(program: str, words: str, coming: bytes) -> Union[str, List[str]]:
-    """What goes otherwise in this, seen by strace: a file whose name begins with f is written, the disk takes that in,
-    and then an XACK is sent."""
+    """What goes otherwise in this: a file named f.. is written, the disk takes that in, and then an XACK is sent."""
     if not shutil.which("strace"):
         return "strace is not there"
     with tempfile.TemporaryDirectory() as folder:
@@ -183,11 +182,10 @@ def refusals(program: str, places: str, rows: str, usage: str = "") -> Iterator[
         kind, option, more = (*what.split(": ", 2), "", "")[:3]
         for line in lines:
             value = "".join(re.findall("'(.*)'", line)).replace("\x1b", "?").replace("\udcff", "\\xff")
+            using = lambda part: f"\n\nUsage: {usage or f'{program} {part}{places}'}"
             said = REFUSED[kind].format(
                 value=value, option=option.replace(", ", "\n  "), more=more, name=option.split(" ")[0],
-                usage=f"\n\nUsage: {usage or f'{program} [OPTIONS] {places}'}",
-                used=f"\n\nUsage: {usage or f'{program} {places}'}",
-                used_with=f"\n\nUsage: {usage or f'{program} {option} {places}'}")
+                usage=using("[OPTIONS] "), used=using(""), used_with=using(f"{option} "))
             yield line.replace("'", ""), f"error: {said}\n\nFor more information, try '--help'.\n"
 
 

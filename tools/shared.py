@@ -193,12 +193,6 @@ def requests_of(command: Sequence[str], shim: str) -> List[int]:
     return figures(command, r"requests (\d+) (\d+)", shim)
 
 
-def instructions_of(command: Sequence[str]) -> int:
-    """How many instructions a run takes, by valgrind."""
-    return figures(["valgrind", "--tool=cachegrind", "--cache-sim=no", "--cachegrind-out-file=/dev/null", *command],
-                   r"I +refs: +([\d,]+)")[0]
-
-
 def in_turn(ways: Dict[Any, Callable[[], Sequence[float]]], runs: int,
             fold: Callable[[Any], float] = min) -> Dict[Any, List[float]]:
     """Goes these ways in turn, so often, from the other end each second time. Returns what each took, folded."""
