@@ -117,7 +117,7 @@ def module_of(path):
 
 
 def functions_in(text):
-    """Returns of each function of a file its name, the type of its impl if it is in one, and where it begins and ends."""
+    """Returns of each function of a file its name, the type of its impl if it has one, where it begins and ends."""
     found = []
     for head in re.finditer(r"(?m)^( *)(?:[a-z]+(?:\([a-z]+\))? |extern \"C\" )*fn (\w+)", text):
         end = re.compile(rf"(?m)^{head[1]}}}").search(text, head.end())
