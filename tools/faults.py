@@ -1,6 +1,7 @@
 """What the tools of tools/live have in common: the lines that go through a stream, kills and cuts, and how what came
 out is compared with what went in."""
 import contextlib
+import functools
 import math
 import os
 import re
@@ -10,7 +11,7 @@ import socket
 import threading
 import time
 
-from shared import begun_below, resp
+from shared import begin, begun_below, join, resp
 
 UNCUT = None, math.inf
 # The words of a server that has its log on the disk before it replies.
@@ -78,6 +79,16 @@ class Way:
             work(*words)
         except Exception as error:
             self.failed = self.failed or error
+
+    def do_at_once(self, *works):
+        """Does works at once, and raises the failure of one. The first is done in this thread: what starts a server
+        again, which ends with the tool only then."""
+        first, *others = [functools.partial(self.safely, work) for work in works]
+        threads = begin(*others)
+        first()
+        join(threads)
+        if self.failed:
+            raise self.failed
 
 
 # Kills and cuts.

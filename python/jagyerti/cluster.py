@@ -1,7 +1,7 @@
 """Redis Cluster: slots, redirections, who serves a slot, and the partitions of a stream.
 
-Slots, partitions and redirections are as the crate redis_client defines them: 'tools/live/cluster-live --rows' holds these
-functions to the stored rows of crates/test_cases.
+Slots, partitions and redirections are as the crate redis_client defines them: tests/test_cluster.py holds these functions
+to the stored rows of crates/test_cases.
 """
 from __future__ import annotations
 
