@@ -73,19 +73,17 @@ class Way:
         with open(self.source, "ab") as file:
             file.write(b"".join(text(number) + b"\n" for number in range(first, self.came + 1)))
 
-    def safely(self, work, *words):
-        """Does a work. Its failure, whatever it is, is that of the whole run."""
-        try:
-            work(*words)
-        except Exception as error:
-            self.failed = self.failed or error
-
     def do_at_once(self, *works):
         """Does works at once, and raises the failure of one. The first is done in this thread: what starts a server
         again, which ends with the tool only then."""
-        first, *others = [functools.partial(self.safely, work) for work in works]
-        threads = begin(*others)
-        first()
+        def do(work):
+            try:
+                work()
+            except Exception as error:
+                self.failed = self.failed or error
+
+        threads = begin(*(functools.partial(do, work) for work in works[1:]))
+        do(works[0])
         join(threads)
         if self.failed:
             raise self.failed
