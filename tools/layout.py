@@ -5,6 +5,7 @@ import contextlib
 import glob
 import hashlib
 import os
+import re
 import shutil
 import subprocess
 import tempfile
@@ -32,50 +33,7 @@ DOC = "share/doc/jagyerti"
 # In a program this text is followed by a text of 44 bytes, which --version prints without the spaces at its end.
 MARK, ROOM = b"@jagyerti-build@", 44
 EXPORTED = "{ global: redis_*; local: *; };\n"
-# It is read at any prefix, and what is linked by it finds the library there.
-PKG_CONFIG = """\
-prefix=${{pcfiledir}}/../..
-libdir=${{prefix}}/lib
-includedir=${{prefix}}/include
-
-Name: redis_c
-Description: Redis streams: replies read in place, and commands
-Version: {version}
-Cflags: -I${{includedir}}
-Libs: -L${{libdir}} -Wl,-rpath,${{libdir}} -lredis_c
-"""
-UNIT = """\
-# /etc/jagyerti/NAME.env has the settings of jagyerti-{name}@NAME.service: {settings}
-[Unit]
-Description={about} (%i)
-Documentation=man:jagyerti-{name}(1)
-Wants=network-online.target
-After=network-online.target
-
-[Service]
-EnvironmentFile=/etc/jagyerti/%i.env
-ExecStart={prefix}/bin/jagyerti {name} {words}
-Restart=on-failure
-RestartSec=5
-DynamicUser=yes
-StateDirectory=jagyerti-%i
-WorkingDirectory=%S/jagyerti-%i
-ProtectSystem=strict
-ProtectHome=yes
-{more}
-[Install]
-WantedBy=multi-user.target
-"""
-# Of each unit: what it is, its settings, the words of its command, and what else systemd has to know.
-UNITS = {
-    "drain": ("Drain of a Redis stream into a file", "REDIS_URL, KEY, GROUP, CONSUMER and FILE, and\n"
-              "# in OPTIONS others of 'jagyerti drain'. A FILE that is no absolute path is in /var/lib/jagyerti-NAME.",
-              "${KEY} ${GROUP} ${CONSUMER} ${FILE} $OPTIONS", ""),
-    # Only the command itself is to get the signal: it lets the job in hand end.
-    "run": ("Jobs of a Redis stream", "REDIS_URL, KEY, GROUP, CONSUMER and COMMAND, and\n"
-            "# in OPTIONS others of 'jagyerti run'.",
-            "${KEY} ${GROUP} ${CONSUMER} $OPTIONS -- $COMMAND", "KillMode=mixed\nTimeoutStopSec=60\n"),
-}
+UNITS = ("drain", "run")
 
 
 class Entry(NamedTuple):
@@ -227,7 +185,8 @@ def tree_of(build: Build, programs: Dict[str, str], library: Dict[str, bytes]) -
     tree.update({f"lib/{name}": Entry(data) for name, data in library.items()})
     tree[f"lib/lib{LIBRARY}.so"] = Entry(link=SONAME)
     tree["include/redis_streams.h"] = Entry(read(f"crates/{LIBRARY}/redis_streams.h"))
-    tree[f"lib/pkgconfig/{LIBRARY}.pc"] = Entry(PKG_CONFIG.format(version=build.version).encode())
+    # (it is read at any prefix, and what is linked by it finds the library there)
+    tree[f"lib/pkgconfig/{LIBRARY}.pc"] = Entry(fill_in("redis_c.pc", VERSION=build.version))
     for path in sorted(glob.glob(f"{ROOT}/python/jagyerti/**/*", recursive=True)):
         if path.endswith((".py", ".typed")):
             tree[f"{PACKAGE}/{os.path.relpath(path, f'{ROOT}/python/jagyerti')}"] = Entry(read(path))
@@ -258,11 +217,16 @@ def shell_files(build: Build, programs: Dict[str, str]) -> Iterator[tuple[str, s
         yield f"share/man/man1/{name}.1", man_pages.write(name, command, build.version, build.time)
 
 
+def fill_in(name: str, **values: object) -> bytes:
+    """Returns a file of tools/templates/package, with a value in place of each @NAME@."""
+    text = read(f"tools/templates/package/{name}").decode()
+    return re.sub(r"@([A-Z]+)@", lambda found: str(values[found[1]]), text).encode()
+
+
 def units(prefix: str) -> Tree:
     """Returns the units of systemd by their paths, for commands below this prefix."""
-    texts = {name: UNIT.format(name=name, about=about, settings=settings, words=words, more=more, prefix=prefix)
-             for name, (about, settings, words, more) in UNITS.items()}
-    return {f"lib/systemd/system/jagyerti-{name}@.service": Entry(text.encode()) for name, text in texts.items()}
+    names = [f"jagyerti-{name}@.service" for name in UNITS]
+    return {f"lib/systemd/system/{name}": Entry(fill_in(name, PREFIX=prefix)) for name in names}
 
 
 def describe_proofs(build: Build, tree: Tree) -> str:

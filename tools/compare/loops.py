@@ -81,7 +81,7 @@ def table(port, key, group, path):
 
 
 def kill(port, key, group, way):
-    from work import work  # of tools/compare/compare-kills
+    from work import work  # of tools/compare/kills
 
     def handle(entries):
         for id, fields in entries:
