@@ -18,9 +18,6 @@ UNCUT = None, math.inf
 LOGGED = ("--appendonly", "yes", "--appendfsync", "always")
 
 
-# Lines.
-
-
 def text(number):
     """A line, of bytes of any kind."""
     return b"%d tea\t\\ %s\r" % (number, "\u00e9".encode() if number % 2 else b"\xff") + b"." * (number % 50)
@@ -87,9 +84,6 @@ class Way:
         join(threads)
         if self.failed:
             raise self.failed
-
-
-# Kills and cuts.
 
 
 def kill(pid):
