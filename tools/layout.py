@@ -77,7 +77,6 @@ def read(path: str) -> bytes:
 
 
 def describe_build(is_proved: bool) -> Build:
-    """Returns what would be built here and now."""
     version = read("VERSION").decode().strip()
     try:
         commit, time = ran(["git", "log", "-1", "--format=%H %ct"]).split()
@@ -178,7 +177,6 @@ def make_tree(build: Build) -> Tree:
 
 
 def tree_of(build: Build, programs: Dict[str, str], library: Dict[str, bytes]) -> Tree:
-    """Returns all files of an installation."""
     tree = {f"bin/{name}": Entry(stamp(name, path, build), 0o755) for name, path in programs.items()}
     tree["bin/jagyerti"] = Entry(read("bin/jagyerti").replace(b'"python"', b'"lib"').replace(b" from a checkout", b""),
                                  0o755)

@@ -45,7 +45,6 @@ class Loop:
 
 
 def loop_over(port, *words, **more):
-    """A loop over one server."""
     import redis
     client = redis.Redis(port=int(port))
     return Loop(lambda: client, *words, **more)
