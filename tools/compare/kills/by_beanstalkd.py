@@ -1,12 +1,19 @@
 """A worker of beanstalkd; with a number it adds so many jobs."""
-import os, socket, sys
+import os
+import socket
+import sys
+
 from work import work
-connection = socket.create_connection(("127.0.0.1", int(os.environ["PORT"])))
-lines = connection.makefile("rwb")
+
+lines = socket.create_connection(("127.0.0.1", int(os.environ["PORT"]))).makefile("rwb")
+
+
 def ask(text):
     lines.write(text)
     lines.flush()
     return lines.readline().split()
+
+
 if sys.argv[1:]:
     for n in range(1, int(sys.argv[1]) + 1):
         assert ask(b"put 0 0 600 %d\r\n%d\r\n" % (len(str(n)), n)) == [b"INSERTED", b"%d" % n]

@@ -1,6 +1,10 @@
 """An app of Celery; as a program it adds so many jobs."""
-import os, sys, celery
+import os
+import sys
+
+import celery
 from work import work
+
 app = celery.Celery("by_celery", broker=os.environ["REDIS_URL"])
 app.conf.task_acks_late = "LATE" in os.environ
 if "TIMEOUT" in os.environ:
