@@ -71,8 +71,8 @@ class Way:
             file.write(b"".join(text(number) + b"\n" for number in range(first, self.came + 1)))
 
     def do_at_once(self, *works):
-        """Does works at once, and raises the failure of one. The first is done in this thread: what starts a server
-        again, which ends with the tool only then."""
+        """Does works at once, and raises the failure of one. The first is done in this thread: a server that it starts
+        ends with the tool."""
         def do(work):
             try:
                 work()
