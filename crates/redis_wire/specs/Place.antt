@@ -1,6 +1,6 @@
 -- The positions of values in bytes.
 use Rattle.std.specs.Prelude.{◌≡◌, ◌≤◌, ◌+◌, ◌⊎◌, ℕ, suc, List, [], ◌∷◌, length, take, drop, pos, Option, Some, None}
-use Rattle.std.specs.Prelude.{Ok, IsSomeAnd}
+use Rattle.std.specs.Prelude.{Ok}
 use Rattle.redis_resp.specs.Tree.{nil, int, bulk}
 use Rattle.redis_wire.specs.declared.limits.Limits.{Limits}
 use Rattle.redis_wire.specs.declared.kind.GroupKind.TheVariants.{Array, Map}

@@ -26,7 +26,7 @@ pub fn is_signed(text: &[u8]) -> bool
 
 /// Returns the text without its leading sign, if there is one.
 #[tactic(auto, unfolding(crate::specs::Decimal::without_sign))]
-fn without_sign(text: &[u8]) -> &[u8]
+fn strip_sign(text: &[u8]) -> &[u8]
     ensures { result.now ≡ without_sign text.now }
 {
     match text {
@@ -36,7 +36,7 @@ fn without_sign(text: &[u8]) -> &[u8]
 }
 
 /// Returns the number of digits at the start of the text.
-fn digits_len(text: &[u8]) -> usize
+fn count_digits(text: &[u8]) -> usize
     ensures { result ≡ prefix_len is_ascii_digit text.now }
 {
     text.iter().take_while(|byte| byte.is_ascii_digit()).count()
@@ -44,10 +44,10 @@ fn digits_len(text: &[u8]) -> usize
 
 /// Returns the rest after the leading digits, or `None` if there is no leading digit.
 #[tactic(auto, unfolding(crate::specs::Decimal::behind_digits))]
-fn behind_digits(text: &[u8]) -> Option<&[u8]>
+fn strip_digits(text: &[u8]) -> Option<&[u8]>
     ensures { option_map (λ rest. rest.now) result ≡ behind_digits text.now }
 {
-    let len = digits_len(text);
+    let len = count_digits(text);
     if len == 0 {
         return None;
     }
@@ -59,7 +59,7 @@ fn behind_digits(text: &[u8]) -> Option<&[u8]>
 pub fn is_integer(text: &[u8]) -> bool
     ensures { result ≡ is_integer text.now }
 {
-    match behind_digits(without_sign(text)) {
+    match strip_digits(strip_sign(text)) {
         Some([]) => true,
         _ => false,
     }
@@ -91,7 +91,7 @@ fn is_fraction(text: &[u8]) -> bool
         [] => true,
         [first, rest @ ..] => {
             if *first == b'.' {
-                match behind_digits(rest) {
+                match strip_digits(rest) {
                     Some(behind) => is_exponent(behind),
                     None => false,
                 }
@@ -118,7 +118,7 @@ fn is_named(text: &[u8]) -> bool
 fn is_decimal(text: &[u8]) -> bool
     ensures { result ≡ fraction_behind (behind_digits text.now) }
 {
-    match behind_digits(text) {
+    match strip_digits(text) {
         Some(behind) => is_fraction(behind),
         None => false,
     }
@@ -129,5 +129,5 @@ fn is_decimal(text: &[u8]) -> bool
 pub fn is_double(text: &[u8]) -> bool
     ensures { result ≡ is_double text.now }
 {
-    is_named(text) || is_decimal(without_sign(text))
+    is_named(text) || is_decimal(strip_sign(text))
 }

@@ -32,7 +32,7 @@ pub struct Node {
 }
 
 /// Reads the node of a line, and returns it with the offset after the line.
-fn line_node(limits: Limits, bytes: &[u8], at: usize, first: u8) -> Option<(Node, usize)>
+fn read_line_node(limits: Limits, bytes: &[u8], at: usize, first: u8) -> Option<(Node, usize)>
     requires { at ≤ length bytes.now }
     ensures { IfSome result (λ x. IsLineNode limits bytes.now at first x.0 x.1) }
 {
@@ -50,7 +50,7 @@ fn line_node(limits: Limits, bytes: &[u8], at: usize, first: u8) -> Option<(Node
 }
 
 /// Returns the node of a null.
-fn null_node() -> Node
+fn make_null_node() -> Node
     ensures { IsNull result }
 {
     Node {
@@ -62,7 +62,7 @@ fn null_node() -> Node
 }
 
 /// Reads the node of length-prefixed bytes, and returns it with the offset after them.
-fn blob_node(
+fn read_blob_node(
     limits: Limits,
     bytes: &[u8],
     at: usize,
@@ -75,7 +75,7 @@ fn blob_node(
 {
     let (len, start) = head_at(limits, bytes, at, first)?;
     let Some(len) = len else {
-        return Some((null_node(), start));
+        return Some((make_null_node(), start));
     };
     let (_, rest) = bytes.split_at(start);
     match blob_at(len as usize, rest) {
@@ -96,7 +96,7 @@ fn blob_node(
 }
 
 /// Returns the node of a group of this type with `members` members.
-fn head_node(first: u8, members: u64) -> Node
+fn make_group_node(first: u8, members: u64) -> Node
     ensures kind { result.kind ≡ first }
     ensures none { result.text.len ≡ 0 }
     ensures members { result.members ≡ members }
@@ -110,7 +110,7 @@ fn head_node(first: u8, members: u64) -> Node
 }
 
 /// Reads the node of a group, and returns it with the offset after its header.
-fn group_node(
+fn read_group_node(
     limits: Limits,
     bytes: &[u8],
     at: usize,
@@ -123,35 +123,35 @@ fn group_node(
 {
     let (count, after) = head_at(limits, bytes, at, first)?;
     match count {
-        None => Some((null_node(), after)),
-        Some(count) => Some((head_node(first, member_count(kind, count)), after)),
+        None => Some((make_null_node(), after)),
+        Some(count) => Some((make_group_node(first, member_count(kind, count)), after)),
     }
 }
 
 /// Reads the node at offset `at`, and returns it with the offset after it and before its members.
-fn node_at(limits: Limits, bytes: &[u8], at: usize) -> Option<(Node, usize)>
+fn read_node(limits: Limits, bytes: &[u8], at: usize) -> Option<(Node, usize)>
     requires { at ≤ length bytes.now }
     ensures { IfSome result (λ x. IsNodeAt limits bytes.now at x.0 x.1) }
 {
     let first = *bytes.get(at)?;
     match kind_of(first)? {
-        Kind::Line(_) => line_node(limits, bytes, at, first),
-        Kind::Blob(kind) => blob_node(limits, bytes, at, first, kind),
-        Kind::Group(kind) => group_node(limits, bytes, at, first, kind),
+        Kind::Line(_) => read_line_node(limits, bytes, at, first),
+        Kind::Blob(kind) => read_blob_node(limits, bytes, at, first, kind),
+        Kind::Group(kind) => read_group_node(limits, bytes, at, first, kind),
     }
 }
 
 /// Reads the first node of a reply, and returns it with the offset after it and before its members.
-fn first_node(limits: Limits, bytes: &[u8]) -> Option<(Node, usize)>
+fn read_first_node(limits: Limits, bytes: &[u8]) -> Option<(Node, usize)>
     ensures begins { IfSome result (λ x. Begins limits bytes.now x.0 x.1) }
     ensures end { IfSome result (λ x. x.1 ≤ length bytes.now) }
 {
     if *bytes.first()? != b'>' {
-        return node_at(limits, bytes, 0);
+        return read_node(limits, bytes, 0);
     }
     match head_at(limits, bytes, 0, b'>')? {
         (None, _) => None,
-        (Some(count), after) => Some((head_node(b'>', count as u64), after)),
+        (Some(count), after) => Some((make_group_node(b'>', count as u64), after)),
     }
 }
 
@@ -179,7 +179,7 @@ fn fill(
         if count >= nodes.len() {
             return None;
         }
-        let (node, behind) = node_at(limits, bytes, at)?;
+        let (node, behind) = read_node(limits, bytes, at)?;
         left = node.members.checked_add(left - 1)?;
         nodes[count] = node;
         count += 1;
@@ -189,7 +189,7 @@ fn fill(
 }
 
 /// Returns the index of the node after `members` values, the first of which has the index `from`.
-fn end_of(nodes: &[Node], from: usize, members: u64) -> usize
+fn find_end(nodes: &[Node], from: usize, members: u64) -> usize
     requires within { from ≤ length nodes.now }
     requires ends { AreEnds from (drop from nodes.now) }
     ensures { result ≡ from + taken members (drop from nodes.now) }
@@ -211,7 +211,7 @@ fn set_ends(nodes: &mut [Node])
 {
     let mut at = nodes.len();
     while at > 0 {
-        let end = end_of(nodes, at, nodes[at - 1].members);
+        let end = find_end(nodes, at, nodes[at - 1].members);
         at -= 1;
         nodes[at].end = end;
     }
@@ -229,7 +229,7 @@ pub fn nodes_in(limits: Limits, text: &[u8], nodes: &mut [Node]) -> Option<usize
     ensures say { IfSome result (λ count. (a : Answer) → IsReply limits text.now a
         → Say limits text.now (take count nodes.new) a) }
 {
-    let (first, after) = first_node(limits, text)?;
+    let (first, after) = read_first_node(limits, text)?;
     let count = fill(limits, text, nodes, first, after)?;
     set_ends(&mut nodes[..count]);
     Some(count)

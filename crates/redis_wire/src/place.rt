@@ -122,7 +122,7 @@ pub fn map_at(limits: Limits, bytes: &[u8], at: usize) -> Option<(u32, usize)>
 }
 
 /// Returns the offset after the array of length -1 at offset `at`, if there is one.
-fn no_array_at(limits: Limits, bytes: &[u8], at: usize) -> Option<usize>
+fn read_null_array(limits: Limits, bytes: &[u8], at: usize) -> Option<usize>
     requires { at ≤ length bytes.now }
     ensures is { IfSome result (λ after. IsNilAt limits bytes.now at after) }
     ensures found { (rest : List ℕ) → BeginsWithHead limits (drop at bytes.now) 42 None rest
@@ -135,7 +135,7 @@ fn no_array_at(limits: Limits, bytes: &[u8], at: usize) -> Option<usize>
 }
 
 /// Returns the offset after the bulk string of length -1 at offset `at`, if there is one.
-fn no_text_at(limits: Limits, bytes: &[u8], at: usize) -> Option<usize>
+fn read_null_bulk_string(limits: Limits, bytes: &[u8], at: usize) -> Option<usize>
     requires { at ≤ length bytes.now }
     ensures is { IfSome result (λ after. IsNilAt limits bytes.now at after) }
     ensures found { (rest : List ℕ) → BeginsWithHead limits (drop at bytes.now) 36 None rest
@@ -148,7 +148,7 @@ fn no_text_at(limits: Limits, bytes: &[u8], at: usize) -> Option<usize>
 }
 
 /// Returns the offset after the null at offset `at`, if there is one.
-fn null_at(limits: Limits, bytes: &[u8], at: usize) -> Option<usize>
+fn read_null(limits: Limits, bytes: &[u8], at: usize) -> Option<usize>
     requires { at ≤ length bytes.now }
     ensures is { IfSome result (λ after. IsNilAt limits bytes.now at after) }
     ensures found { (rest : List ℕ) → BeginsWithLine limits (drop at bytes.now) 95 [] rest
@@ -167,17 +167,17 @@ pub fn nil_at(limits: Limits, bytes: &[u8], at: usize) -> Option<usize>
     ensures found { (rest : List ℕ) → BeginsWithNil limits (drop at bytes.now) rest
         → IsSomeAnd result (EndsBefore bytes.now rest) }
 {
-    if let Some(after) = no_array_at(limits, bytes, at) {
+    if let Some(after) = read_null_array(limits, bytes, at) {
         return Some(after);
     }
-    if let Some(after) = no_text_at(limits, bytes, at) {
+    if let Some(after) = read_null_bulk_string(limits, bytes, at) {
         return Some(after);
     }
-    null_at(limits, bytes, at)
+    read_null(limits, bytes, at)
 }
 
 /// Parses the number on a line, if it is not negative.
-fn unsigned_of(line: &[u8]) -> Option<u64>
+fn parse_unsigned(line: &[u8]) -> Option<u64>
     ensures is { IfSome result (λ n. number_of line.now ≡ Some (pos n)) }
     ensures found { (n : ℕ) → number_of line.now ≡ Some (pos n) → result ≡ Some n }
 {
@@ -192,5 +192,5 @@ pub fn int_at(limits: Limits, bytes: &[u8], at: usize) -> Option<(u64, usize)>
         → IsSomeAnd result (λ x. (x.0 ≡ number) × EndsBefore bytes.now rest x.1) }
 {
     let (line, after) = line_behind(limits, bytes, at, b':')?;
-    Some((unsigned_of(line)?, after))
+    Some((parse_unsigned(line)?, after))
 }

@@ -15,7 +15,7 @@ use crate::value::{members_at, replies_in, value_at};
 use std::alloc::Global;
 
 /// Returns the kind of a message, which is UTF-8 text.
-fn kind_text(text: &[u8]) -> Result<&str, Stop>
+fn parse_kind(text: &[u8]) -> Result<&str, Stop>
     ensures { Gives (λ kind. kind.now) result (kind_text text.now) }
 {
     match std::str::from_utf8(text) {
@@ -26,31 +26,31 @@ fn kind_text(text: &[u8]) -> Result<&str, Stop>
 
 /// Reads the kind of a message as a bulk string of this length.
 #[tactic(auto, unfolding(crate::specs::Push::kind_body_at))]
-fn kind_body_at(len: Option<u32>, bytes: &[u8]) -> Result<(&str, &[u8]), Stop>
+fn read_kind_body(len: Option<u32>, bytes: &[u8]) -> Result<(&str, &[u8]), Stop>
     ensures { Gives (λ x. (x.0.now, x.1.now)) result (kind_body_at len bytes.now) }
 {
     match len {
         None => Err(Stop::Fault(Fault::BadPush)),
         Some(len) => {
             let (text, rest) = blob_at(len as usize, bytes)?;
-            Ok((kind_text(text)?, rest))
+            Ok((parse_kind(text)?, rest))
         }
     }
 }
 
 /// Reads the kind of a message after its first byte.
 #[tactic(auto, unfolding(crate::specs::Push::kind_by))]
-fn kind_by(limits: Limits, kind: Option<Kind>, bytes: &[u8]) -> Result<(&str, &[u8]), Stop>
+fn read_kind(limits: Limits, kind: Option<Kind>, bytes: &[u8]) -> Result<(&str, &[u8]), Stop>
     ensures { Gives (λ x. (x.0.now, x.1.now)) result (kind_by limits kind bytes.now) }
 {
     match kind {
         Some(Kind::Line(LineKind::Status)) => {
             let (text, rest) = line_at(limits.line, bytes)?;
-            Ok((kind_text(text)?, rest))
+            Ok((parse_kind(text)?, rest))
         }
         Some(Kind::Blob(BlobKind::Bulk)) => {
             let (len, rest) = length_at(limits, bytes)?;
-            kind_body_at(len, rest)
+            read_kind_body(len, rest)
         }
         _ => Err(Stop::Fault(Fault::BadPush)),
     }
@@ -63,13 +63,13 @@ pub fn kind_at(limits: Limits, bytes: &[u8]) -> Result<(&str, &[u8]), Stop>
 {
     match bytes {
         [] => Err(Stop::Short),
-        [first, rest @ ..] => kind_by(limits, kind_of(*first), rest),
+        [first, rest @ ..] => read_kind(limits, kind_of(*first), rest),
     }
 }
 
 /// Reads the message whose count was read, and returns it with the rest.
 #[tactic(auto, unfolding(crate::specs::Push::push_body_at))]
-fn push_body_at(
+fn read_push_body(
     alloc: Global,
     limits: Limits,
     count: Option<u32>,
@@ -85,13 +85,13 @@ fn push_body_at(
             let (kind, rest) = kind_at(limits, bytes)?;
             let left = (count - 1) as u64;
             let (members, after) = members_at(alloc, limits, limits.depth - 1, 0, left, rest)?;
-            Ok((push_of(alloc, kind, members)?, after))
+            Ok((make_push(alloc, kind, members)?, after))
         }
     }
 }
 
 /// Builds a message of this kind with these members.
-fn push_of(alloc: Global, kind: &str, members: Members) -> Result<Reply, Stop>
+fn make_push(alloc: Global, kind: &str, members: Members) -> Result<Reply, Stop>
     ensures is { IfOk result (λ reply.
         answer reply ≡ pushed kind.now (answer_list (one_by_one (answers members)))) }
     ensures memory { IfErr result (λ e. e ≡ Memory) }
@@ -104,14 +104,14 @@ fn push_of(alloc: Global, kind: &str, members: Members) -> Result<Reply, Stop>
 
 /// Reads the message after its first byte, and returns it with the rest.
 #[tactic(auto, unfolding(crate::specs::Push::push_at))]
-fn push_at(alloc: Global, limits: Limits, bytes: &[u8]) -> Result<(Reply, &[u8]), Stop>
+fn read_push(alloc: Global, limits: Limits, bytes: &[u8]) -> Result<(Reply, &[u8]), Stop>
     ensures { Gives (λ x. (answer x.0, x.1.now)) result (push_at limits bytes.now) }
 {
     if limits.depth == 0 {
         return Err(Stop::Fault(Fault::TooDeep));
     }
     let (count, rest) = length_at(limits, bytes)?;
-    push_body_at(alloc, limits, count, rest)
+    read_push_body(alloc, limits, count, rest)
 }
 
 /// Reads the reply at the start of `bytes`, a message or a value, and returns it with the rest.
@@ -123,7 +123,7 @@ pub fn reply_at(alloc: Global, limits: Limits, bytes: &[u8]) -> Result<(Reply, &
         [] => Err(Stop::Short),
         [first, rest @ ..] => {
             if *first == b'>' {
-                push_at(alloc, limits, rest)
+                read_push(alloc, limits, rest)
             } else {
                 value_at(alloc, limits, limits.depth, 0, bytes)
             }

@@ -20,24 +20,24 @@ pub fn command_words(alloc: Global, command: Reply) -> Result<Option<Vec<Vec<u8>
         (option_map (λ v. map (λ word. word.items) v.items) words)) }
 {
     match command {
-        Reply::Value(value) => texts_in(alloc, value),
+        Reply::Value(value) => read_array_texts(alloc, value),
         _ => Ok(None),
     }
 }
 
 /// Returns the bytes of each member of an array of bulk strings; `None` for any other value.
-fn texts_in(alloc: Global, v: Value) -> Result<Option<Vec<Vec<u8>>>, AllocError>
+fn read_array_texts(alloc: Global, v: Value) -> Result<Option<Vec<Vec<u8>>>, AllocError>
     ensures { IfOk result (λ words. option_map (λ v. map (λ word. word.items) v.items) words
         ≡ words_in (value (tree v))) }
 {
     match v {
-        Value::Array(values) => texts_of(alloc, values),
+        Value::Array(values) => read_texts(alloc, values),
         _ => Ok(None),
     }
 }
 
 /// Returns the bytes of each value; `None` if one of them is not a bulk string.
-fn texts_of(alloc: Global, values: Vec<Value>) -> Result<Option<Vec<Vec<u8>>>, AllocError>
+fn read_texts(alloc: Global, values: Vec<Value>) -> Result<Option<Vec<Vec<u8>>>, AllocError>
     ensures { IfOk result (λ words. option_map (λ v. map (λ word. word.items) v.items) words
         ≡ traverse bulk_text (map tree values.items)) }
 {

@@ -94,7 +94,7 @@ pub fn push_error(
     }
     match protocol {
         Protocol::Resp2 => {
-            let line = with_blanks(alloc, text)?;
+            let line = replace_line_ends(alloc, text)?;
             push_line(out, b'-', &line)
         }
         Protocol::Resp3 => {
@@ -107,7 +107,7 @@ pub fn push_error(
 }
 
 /// Returns the text with a space instead of each CR and LF.
-fn with_blanks(alloc: Global, text: &[u8]) -> Result<Vec<u8>, AllocError>
+fn replace_line_ends(alloc: Global, text: &[u8]) -> Result<Vec<u8>, AllocError>
     ensures { IfOk result (λ line. line.items ≡ map blank_end text.now) }
 {
     text.iter()

@@ -57,12 +57,12 @@ pub fn read_any_autoclaim<'a>(
     match tape.read_autoclaim(bytes, limits) {
         Err(_) => Err(WireError::Memory),
         Ok(Some(found)) => Ok(AutoClaimOutcome::InPlace(found)),
-        Ok(None) => copied_autoclaim(alloc, bytes, limits),
+        Ok(None) => copy_autoclaim(alloc, bytes, limits),
     }
 }
 
 /// Reads a reply of XAUTOCLAIM by way of a decoded value.
-fn copied_autoclaim<'a>(
+fn copy_autoclaim<'a>(
     alloc: Global,
     bytes: &[u8],
     limits: Limits,
@@ -94,12 +94,12 @@ pub fn read_any_justid<'a>(
     match tape.read_justid(bytes, limits) {
         Err(_) => Err(WireError::Memory),
         Ok(Some(found)) => Ok(JustIdOutcome::InPlace(found)),
-        Ok(None) => copied_justid(alloc, bytes, limits),
+        Ok(None) => copy_justid(alloc, bytes, limits),
     }
 }
 
 /// Reads a reply of XAUTOCLAIM with `JUSTID` by way of a decoded value.
-fn copied_justid<'a>(
+fn copy_justid<'a>(
     alloc: Global,
     bytes: &[u8],
     limits: Limits,

@@ -119,7 +119,7 @@ impl<'a> EntryRef<'a> {
         Ok(StreamId {
             id: String::from_str(alloc, self.id)?,
             map: self.fields().to_owned(alloc)?,
-            milliseconds_elapsed_from_delivery: self.elapsed(),
+            milliseconds_elapsed_from_delivery: self.compute_elapsed(),
             delivered_count: self.count(),
         })
     }
@@ -142,7 +142,7 @@ impl<'a> EntryRef<'a> {
     }
 
     /// The milliseconds since the entry was last delivered, as a record has them.
-    fn elapsed(&self) -> Option<usize>
+    fn compute_elapsed(&self) -> Option<usize>
         ensures { result ≡ option_map (λ d. d.0) self.now.delivery }
     {
         match self.delivery {

@@ -85,23 +85,23 @@ impl<'a> EntriesRef<'a> {
     {
         let (first, rest) = self.places.split_first()?;
         self.places = rest;
-        Some(entry_at(self.bytes, *first, self.fields))
+        Some(make_entry(self.bytes, *first, self.fields))
     }
 }
 
 /// The entry at that place.
-fn entry_at<'a>(bytes: &'a [u8], place: EntryPlace, fields: &'a [FieldPlace]) -> EntryRef<'a>
+fn make_entry<'a>(bytes: &'a [u8], place: EntryPlace, fields: &'a [FieldPlace]) -> EntryRef<'a>
     requires entry { IsEntry bytes.now (length fields.now) place }
     requires fields { AllByRecursion (IsField bytes.now) fields.now }
     ensures { result ≡ entry_in bytes.now fields.now place }
 {
     let id = unsafe { str::from_utf8_unchecked(text_in(bytes, place.id)) };
     let own = fields_at(bytes, &fields[place.from..place.to]);
-    entry_of(id, own, place.deleted, delivery_of(place))
+    entry_of(id, own, place.deleted, find_delivery(place))
 }
 
 /// The delivery of an entry, if it has one.
-fn delivery_of(place: EntryPlace) -> Option<Delivery>
+fn find_delivery(place: EntryPlace) -> Option<Delivery>
     ensures { option_map (λ d. (d.elapsed, d.count)) result
         ≡ delivery_if place.delivered place.elapsed place.count }
 {

@@ -108,7 +108,7 @@ impl<'a> FieldsRef<'a> {
     {
         let mut copies = HashMap::new(alloc);
         for place in self.places {
-            let (name, value) = pair_at(alloc, self.bytes, *place)?;
+            let (name, value) = copy_pair(alloc, self.bytes, *place)?;
             put(&mut copies, name, value)?;
         }
         Ok(copies)
@@ -122,7 +122,7 @@ impl<'a> FieldsRef<'a> {
     {
         let mut pairs = Vec::with_capacity(alloc, self.places.len())?;
         for place in self.places {
-            pairs.push(pair_at(alloc, self.bytes, *place)?)?;
+            pairs.push(copy_pair(alloc, self.bytes, *place)?)?;
         }
         Ok(PairList(pairs))
     }
@@ -193,7 +193,7 @@ impl<'a> fmt::Debug for FieldsRef<'a> {
 }
 
 /// The bytes as text, as the name of a record must be.
-fn text_of(bytes: &[u8]) -> Result<&str, ParsingError>
+fn read_text(bytes: &[u8]) -> Result<&str, ParsingError>
     ensures ok { IfOk result (λ t. (t.now ≡ bytes.now) × (is_utf8 bytes.now ≡ true)) }
     ensures err { IfErr result (λ e. (e ≡ ParsingError.NotText) × (is_utf8 bytes.now ≡ false)) }
 {
@@ -204,14 +204,18 @@ fn text_of(bytes: &[u8]) -> Result<&str, ParsingError>
 }
 
 /// A copy of the field at that place.
-fn pair_at(alloc: Global, bytes: &[u8], place: FieldPlace) -> Result<(String, Value), ParsingError>
+fn copy_pair(
+    alloc: Global,
+    bytes: &[u8],
+    place: FieldPlace,
+) -> Result<(String, Value), ParsingError>
     requires { IsField bytes.now place }
     ensures name { IfOk result (λ p. string_bytes p.0 ≡ (field_in bytes.now place).0) }
     ensures value { IfOk result (λ p. tree p.1 ≡ bulk (field_in bytes.now place).1) }
     ensures named { OnOk result (is_utf8 (field_in bytes.now place).0 ≡ true) }
     ensures err { IfErr result (NotOwned (is_utf8 (field_in bytes.now place).0 ≡ true)) }
 {
-    let name = String::from_str(alloc, text_of(text_in(bytes, place.name))?)?;
+    let name = String::from_str(alloc, read_text(text_in(bytes, place.name))?)?;
     let value = Vec::from_slice(alloc, text_in(bytes, place.value))?;
     Ok((name, Value::BulkString(value)))
 }

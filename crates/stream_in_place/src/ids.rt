@@ -81,12 +81,12 @@ impl<'a> IdsRef<'a> {
     {
         let (first, rest) = self.places.split_first()?;
         self.places = rest;
-        Some(id_of(self.bytes, *first))
+        Some(read_id(self.bytes, *first))
     }
 }
 
 /// The id at that place.
-fn id_of(bytes: &[u8], place: EntryPlace) -> &str
+fn read_id(bytes: &[u8], place: EntryPlace) -> &str
     requires { IsId bytes.now place }
     ensures { result.now ≡ id_at bytes.now place }
 {
@@ -128,7 +128,7 @@ pub fn ids_at<'a>(bytes: &'a [u8], places: &'a [EntryPlace]) -> IdsRef<'a>
 }
 
 /// The place of an id, as the place of an entry without fields.
-fn id_place(id: Span) -> EntryPlace
+fn make_id_place(id: Span) -> EntryPlace
     ensures { result ≡ record {
       id = id;
       from = 0;
@@ -174,7 +174,7 @@ pub fn add_ids<P: Places>(
         let Some((id, after)) = name_at(limits, bytes, behind) else {
             return Ok(None);
         };
-        places.push_entry(id_place(id))?;
+        places.push_entry(make_id_place(id))?;
         behind = after;
     }
     Ok(Some(behind))

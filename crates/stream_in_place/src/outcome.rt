@@ -57,12 +57,12 @@ pub fn read_any_range<'a>(
     match tape.read_range(bytes, limits) {
         Err(_) => Err(WireError::Memory),
         Ok(Some(found)) => Ok(RangeOutcome::InPlace(found)),
-        Ok(None) => copied_range(alloc, bytes, limits),
+        Ok(None) => copy_range(alloc, bytes, limits),
     }
 }
 
 /// Reads entries by way of a decoded value.
-fn copied_range<'a>(
+fn copy_range<'a>(
     alloc: Global,
     bytes: &[u8],
     limits: Limits,
@@ -94,12 +94,12 @@ pub fn read_any_streams<'a>(
     match tape.read_either_form(bytes, limits) {
         Err(_) => Err(WireError::Memory),
         Ok(Some(found)) => Ok(ReadOutcome::InPlace(found)),
-        Ok(None) => copied_streams(alloc, bytes, limits),
+        Ok(None) => copy_streams(alloc, bytes, limits),
     }
 }
 
 /// Reads streams by way of a decoded value.
-fn copied_streams<'a>(
+fn copy_streams<'a>(
     alloc: Global,
     bytes: &[u8],
     limits: Limits,

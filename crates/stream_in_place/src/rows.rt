@@ -29,7 +29,7 @@ pub fn text_in(bytes: &[u8], span: Span) -> &[u8]
 
 /// Whether the eight bytes at offset `at` are ASCII, in one comparison.
 #[inline(always)]
-fn are_ascii_at(bytes: &[u8], at: usize) -> bool
+fn are_eight_ascii(bytes: &[u8], at: usize) -> bool
     requires { at + 8 ≤ length bytes.now }
     ensures { result ≡ true → (i : ℕ) → at ≤ i → i < at + 8 → slice_index bytes.now i < 128 }
 {
@@ -39,29 +39,54 @@ fn are_ascii_at(bytes: &[u8], at: usize) -> bool
         == 0
 }
 
-/// Whether all bytes are ASCII. Nearly every id has 8 to 24 bytes: its first and last eight, and those between them.
+/// Whether the sixteen bytes at offset `at` are ASCII, in one comparison.
 #[inline(always)]
-fn is_ascii(bytes: &[u8]) -> bool
+fn are_sixteen_ascii(bytes: &[u8], at: usize) -> bool
+    requires { at + 16 ≤ length bytes.now }
+    ensures { result ≡ true → (i : ℕ) → at ≤ i → i < at + 16 → slice_index bytes.now i < 128 }
+{
+    u8x16::from_slice(&bytes[at..])
+        .simd_ge(u8x16::splat(0x80))
+        .to_bitmask()
+        == 0
+}
+
+/// Whether the bytes are 8 to 32 of ASCII, as those of nearly every id are. The first and the last sixteen, or eight, are
+/// all of them.
+#[inline(always)]
+fn is_short_ascii(bytes: &[u8]) -> bool
     ensures { result ≡ true → IsAscii bytes.now }
 {
     let len = bytes.len();
-    if len < 8 || len > 24 {
-        return bytes.is_ascii();
+    if len < 8 || len > 32 {
+        return false;
     }
-    are_ascii_at(bytes, 0) && are_ascii_at(bytes, len - 8) && (len <= 16 || are_ascii_at(bytes, 8))
+    if len < 16 {
+        return are_eight_ascii(bytes, 0) && are_eight_ascii(bytes, len - 8);
+    }
+    are_sixteen_ascii(bytes, 0) && are_sixteen_ascii(bytes, len - 16)
 }
 
-/// Whether the bytes are UTF-8.
-pub fn is_text(bytes: &[u8]) -> bool
+/// Whether the bytes are UTF-8, whatever their number.
+#[inline(never)]
+fn is_any_text(bytes: &[u8]) -> bool
     ensures { result ≡ is_utf8 bytes.now }
 {
-    if is_ascii(bytes) {
-        return true;
-    }
     match str::from_utf8(bytes) {
         Ok(_) => true,
         Err(_) => false,
     }
+}
+
+/// Whether the bytes are UTF-8.
+#[inline(always)]
+pub fn is_text(bytes: &[u8]) -> bool
+    ensures { result ≡ is_utf8 bytes.now }
+{
+    if is_short_ascii(bytes) {
+        return true;
+    }
+    is_any_text(bytes)
 }
 
 /// Returns the UTF-8 text of the bulk string at offset `at`, and the offset of its end.
@@ -151,7 +176,7 @@ fn add_own_fields<P: Places>(
 }
 
 /// When the entry was last delivered, and how many times, if the form has it, and the offset of the end.
-fn delivery_at(limits: Limits, bytes: &[u8], at: usize, form: Form) -> Option<(u64, u64, usize)>
+fn read_delivery(limits: Limits, bytes: &[u8], at: usize, form: Form) -> Option<(u64, u64, usize)>
     requires { at ≤ length bytes.now }
     ensures is { IfSome result (λ x. IsDeliveryAt limits bytes.now at (is_claim form) x.0 x.1 x.2) }
     ensures found { (delivery : Option (ℕ × ℕ)) (rest : List ℕ) → AllowsRows limits → IsOfForm (is_claim form) delivery
@@ -167,7 +192,7 @@ fn delivery_at(limits: Limits, bytes: &[u8], at: usize, form: Form) -> Option<(u
 }
 
 /// The number of values of a row: an id and fields, and in the claim form a time and a count.
-fn row_len(form: Form) -> u32
+fn count_values(form: Form) -> u32
     ensures { result ≡ row_count (is_claim form) }
 {
     if form.tells_delivery() { 4 } else { 2 }
@@ -199,7 +224,7 @@ fn add_entry<P: Places>(
     let Some((members, behind)) = count_at(limits, bytes, at) else {
         return Ok(None);
     };
-    if members != row_len(form) {
+    if members != count_values(form) {
         return Ok(None);
     }
     let Some((id, behind)) = name_at(limits, bytes, behind) else {
@@ -209,7 +234,7 @@ fn add_entry<P: Places>(
     let Some((deleted, behind)) = add_own_fields(limits, bytes, behind, places)? else {
         return Ok(None);
     };
-    let Some((elapsed, count, after)) = delivery_at(limits, bytes, behind, form) else {
+    let Some((elapsed, count, after)) = read_delivery(limits, bytes, behind, form) else {
         return Ok(None);
     };
     let entry = EntryPlace {

@@ -132,12 +132,12 @@ impl<'a> StreamsRef<'a> {
     {
         let (first, rest) = self.places.split_first()?;
         self.places = rest;
-        Some(stream_at(self.bytes, *first, self.entries, self.fields))
+        Some(make_stream(self.bytes, *first, self.entries, self.fields))
     }
 }
 
 /// The stream at that place.
-fn stream_at<'a>(
+fn make_stream<'a>(
     bytes: &'a [u8],
     place: StreamPlace,
     entries: &'a [EntryPlace],

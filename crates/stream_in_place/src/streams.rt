@@ -19,7 +19,7 @@ use redis_wire::place::array_at;
 
 /// Returns the offset after what precedes the name of a stream. In a map that is nothing. In an array it
 /// is the header of the array of the name and the rows.
-fn head_end(limits: Limits, bytes: &[u8], at: usize, spelling: Spelling) -> Option<usize>
+fn find_head_end(limits: Limits, bytes: &[u8], at: usize, spelling: Spelling) -> Option<usize>
     requires { at ≤ length bytes.now }
     ensures is { IfSome result (λ behind. IsStreamHead limits bytes.now at (is_map spelling) behind) }
     ensures found { (rest : List ℕ) → AllowsRows limits → drop at bytes.now ≡ stream_head (is_map spelling) ++ rest
@@ -61,7 +61,7 @@ fn add_stream<P: Places>(
         → IsOk result }
     ensures kept { P.lent places.new ≡ P.lent places.old }
 {
-    let Some(behind) = head_end(limits, bytes, at, spelling) else {
+    let Some(behind) = find_head_end(limits, bytes, at, spelling) else {
         return Ok(None);
     };
     let Some((name, behind)) = name_at(limits, bytes, behind) else {

@@ -5,6 +5,7 @@ pub returns-in-Some-clause-found : goal.returns-in-Some-clause-found
 returns-in-Some-clause-found c =
     nil_same c.args.limits c.args.bytes.now c.args.at c.in-Some.after c.in-Some.ensures.is
 
-pub returns-in-Some-no_text_at-clause-found : goal.returns-in-Some-no_text_at-clause-found
-returns-in-Some-no_text_at-clause-found c =
-    nil_same c.args.limits c.args.bytes.now c.args.at c.in-Some-no_text_at.after c.in-Some-no_text_at.ensures.is
+pub returns-in-Some-read_null_bulk_string-clause-found : goal.returns-in-Some-read_null_bulk_string-clause-found
+returns-in-Some-read_null_bulk_string-clause-found c =
+    nil_same c.args.limits c.args.bytes.now c.args.at c.in-Some-read_null_bulk_string.after
+    c.in-Some-read_null_bulk_string.ensures.is

@@ -29,6 +29,14 @@ returns-then-inner-eq0-2-clause-is c =
     c.loop-inner.rest.now c.loop-inner.invariant (omega (arith, c.if-count-limits.false)) c.if-inner-eq0-2.true
     (omega (arith, c.if-inner-eq0.false))
 
+pub loop-inner-preserved-then-passed-gt0 : goal.loop-inner-preserved-then-passed-gt0
+loop-inner-preserved-then-passed-gt0 c =
+    let run = c.pass_short_bulks-passed.ensures in
+    let most = c.count_allowed-most.ensures in
+    run.pass c.loop-inner.count c.loop-inner.inner c.loop-inner.outer.items c.args.bytes.now
+    (omega (arith, run.few, most.members)) (omega (arith, run.few, most.values, c.if-count-limits.false))
+    (omega (arith, c.if-inner-eq0-2.false)) c.loop-inner.invariant
+
 pub loop-inner-smaller : goal.loop-inner-smaller
 loop-inner-smaller c =
     let shorter : length c.in-Ok.after.now + 3 ≤ length c.loop-inner.rest.now =

@@ -10,10 +10,10 @@ returns-in-Ok-Whole-clause-len c = len_whole c.args.limits c.args.bytes.now c.in
     (rw c.in-Ok-Whole.field-0-is at c.in-Ok-Whole.ensures)
 
 pub returns-in-Ok-Whole-clause-left : goal.returns-in-Ok-Whole-clause-left
-returns-in-Ok-Whole-clause-left c = c.taken-from.ensures.left c.args.bytes.now c.args.limits
+returns-in-Ok-Whole-clause-left c = c.take_scan-from.ensures.left c.args.bytes.now c.args.limits
 
 pub returns-in-Ok-clause-left : goal.returns-in-Ok-clause-left
-returns-in-Ok-clause-left c = c.taken-from.ensures.left c.args.bytes.now c.args.limits
+returns-in-Ok-clause-left c = c.take_scan-from.ensures.left c.args.bytes.now c.args.limits
 
 pub returns-in-Err-clause-left : goal.returns-in-Err-clause-left
-returns-in-Err-clause-left c = c.taken-from.ensures.left c.args.bytes.now c.args.limits
+returns-in-Err-clause-left c = c.take_scan-from.ensures.left c.args.bytes.now c.args.limits

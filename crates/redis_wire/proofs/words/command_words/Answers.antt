@@ -9,14 +9,15 @@ use Rattle.redis_wire.proofs.words.command_words.Goals as goal
 pub returns-in-Value-clause-words : goal.returns-in-Value-clause-words
 returns-in-Value-clause-words c =
     let same = words_of_value c.args.command c.in-Value.value c.in-Value.is in
-    IfOk-weaker c.texts_in.result _ _ (λ words e. are_words (answer c.args.command) _ (e ∙ same)) c.texts_in.ensures
+    IfOk-weaker c.read_array_texts.result _ _ (λ words e. are_words (answer c.args.command) _ (e ∙ same))
+    c.read_array_texts.ensures
 
 pub returns-in-Value-clause-packed : goal.returns-in-Value-clause-packed
 returns-in-Value-clause-packed c =
     let same = words_of_value c.args.command c.in-Value.value c.in-Value.is in
-    IfOk-weaker c.texts_in.result _ _
+    IfOk-weaker c.read_array_texts.result _ _
     (λ words e. are_unpacked (answer c.args.command) _ (are_words (answer c.args.command) _ (e ∙ same)))
-    c.texts_in.ensures
+    c.read_array_texts.ensures
 
 pub returns : goal.returns
 returns c =

@@ -18,10 +18,10 @@ loop-init g c = record {
 
 pub loop-preserved : goal.loop-preserved
 loop-preserved g c =
-    let id : c.in-Some.id ≡ c.id_place.result.id = sym (ap (λ (e : EntryPlace). e.id) c.id_place.ensures) in
+    let id : c.in-Some.id ≡ c.make_id_place.result.id = sym (ap (λ (e : EntryPlace). e.id) c.make_id_place.ensures) in
     record {
       added = ids_more c.args.limits c.args.bytes.now c.args.at (g.P.Places.held c.args.places.now) c.loop.counter
-          c.loop.behind c.in-Some.after c.in-Some.id c.id_place.result (g.P.Places.held c.loop.places)
+          c.loop.behind c.in-Some.after c.in-Some.id c.make_id_place.result (g.P.Places.held c.loop.places)
           (g.P.Places.held c.push_entry.new.self) c.loop.invariant.added c.in-Some.ensures.is c.in-Some.ensures.text id
           c.in_ok-push_entry.ensures.holds;
       left = left_more bulk_bytes (IsName c.args.limits) c.args.limits c.args.bytes.now c.args.at c.args.count

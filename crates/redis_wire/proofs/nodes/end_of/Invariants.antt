@@ -1,7 +1,0 @@
-use Rattle.std.proofs.Common.{◌≡◌, ◌+◌, drop}
-use Rattle.redis_wire.specs.Nodes.{taken}
-use Rattle.redis_wire.proofs.nodes.end_of.Given as goal
-
--- `_member` values were passed
-abbrev pub invariant-loop-member : goal.invariant-loop-member
-invariant-loop-member l = l.end ≡ l.from + taken l._member (drop l.from l.nodes)

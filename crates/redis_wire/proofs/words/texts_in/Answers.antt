@@ -1,9 +1,0 @@
-use Rattle.std.proofs.Common.{◌∙◌}
-use Rattle.std.proofs.lemmas.Result.{IfOk-weaker}
-use Rattle.redis_wire.proofs.WordsLemmas.{words_of_array}
-use Rattle.redis_wire.proofs.words.texts_in.Goals as goal
-
-pub returns-in-Array : goal.returns-in-Array
-returns-in-Array c =
-    let same = words_of_array c.args.v c.in-Array.values c.in-Array.is in
-    IfOk-weaker c.texts_of.result _ _ (λ words e. e ∙ same) c.texts_of.ensures

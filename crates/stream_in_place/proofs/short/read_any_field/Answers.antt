@@ -1,0 +1,19 @@
+use Rattle.std.proofs.Common.{drop}
+use Rattle.redis_wire.specs.Place.{BeginsWithText}
+use Rattle.stream_in_place.proofs.short.read_any_field.Goals as goal
+
+pub returns-clause-found : goal.returns-clause-found
+returns-clause-found c = λ name value behind rest first second.
+    let left = (c.in_ok-name.ensures.found name behind first).1 in
+    let next : BeginsWithText c.args.limits (drop c.in_ok-name.middle c.args.bytes.now) value rest = rw left second in
+    (c.in_ok-value.ensures.found value rest next).1
+
+pub returns-in_err-name-clause-found : goal.returns-in_err-name-clause-found
+returns-in_err-name-clause-found c = λ name value behind rest first second.
+    absurd (c.in_err-name.ensures.found name behind first)
+
+pub returns-in_err-value-clause-found : goal.returns-in_err-value-clause-found
+returns-in_err-value-clause-found c = λ name value behind rest first second.
+    let left = (c.in_ok-name.ensures.found name behind first).1 in
+    let next : BeginsWithText c.args.limits (drop c.in_ok-name.middle c.args.bytes.now) value rest = rw left second in
+    absurd (c.in_err-value.ensures.found value rest next)
