@@ -102,7 +102,7 @@ impl Client {
             (state_of server.old self.old) (state_of server.new self.new)) }
         ensures ended { OnErr result (self.new.has_ended ≡ true) }
     {
-        match first_of(alloc, &self.unread) {
+        match parse_first(alloc, &self.unread) {
             Ok((words, behind)) => {
                 self.scan = Scan::NEW;
                 self.unread = Vec::new(alloc);
@@ -187,7 +187,7 @@ fn answer_all<'a>(
 }
 
 /// The command at the head of bytes, and a copy of the bytes after it.
-fn first_of(alloc: Global, bytes: &[u8]) -> Result<(Vec<Vec<u8>>, Vec<u8>), Stop>
+fn parse_first(alloc: Global, bytes: &[u8]) -> Result<(Vec<Vec<u8>>, Vec<u8>), Stop>
     ensures { Gives (λ x. (map (λ w. w.items) x.0.items, x.1.items)) result (command_at bytes.now) }
 {
     let (words, behind) = command_at(alloc, bytes)?;
@@ -218,11 +218,11 @@ fn make_room(held: &mut Vec<u8>, more: usize, wanted: usize) -> Result<(), Alloc
     let Some(needed) = held.len().checked_add(more) else {
         return Err(AllocError);
     };
-    held.reserve_exact(room_for(room, needed, wanted) - held.len())
+    held.reserve_exact(compute_room(room, needed, wanted) - held.len())
 }
 
 /// The new capacity in place of one that is too small.
-fn room_for(room: usize, needed: usize, wanted: usize) -> usize
+fn compute_room(room: usize, needed: usize, wanted: usize) -> usize
     requires { room < needed }
     ensures enough { needed ≤ result }
     ensures bound { result ≤ 2 * needed }

@@ -189,8 +189,8 @@ fn run_reading(
     };
     match look_up {
         LookUp::Exists => Ok(exists(streams, arguments)),
-        LookUp::Type => type_of(streams, arguments),
-        LookUp::Len => len_of(streams, arguments),
+        LookUp::Type => reply_with_type(streams, arguments),
+        LookUp::Len => reply_with_len(streams, arguments),
         LookUp::Range => range::range(alloc, streams, false, arguments),
         LookUp::ReverseRange => range::range(alloc, streams, true, arguments),
         LookUp::Read => read::read(alloc, streams, arguments),
@@ -227,7 +227,7 @@ fn exists(streams: &[Stream], keys: &[Vec<u8>]) -> Answer {
 }
 
 /// `TYPE key`
-fn type_of(streams: &[Stream], arguments: &[Vec<u8>]) -> Result<Answer, Refusal> {
+fn reply_with_type(streams: &[Stream], arguments: &[Vec<u8>]) -> Result<Answer, Refusal> {
     let [key, ..] = arguments else {
         return Err(SYNTAX);
     };
@@ -238,7 +238,7 @@ fn type_of(streams: &[Stream], arguments: &[Vec<u8>]) -> Result<Answer, Refusal>
 }
 
 /// `XLEN key`
-fn len_of(streams: &[Stream], arguments: &[Vec<u8>]) -> Result<Answer, Refusal> {
+fn reply_with_len(streams: &[Stream], arguments: &[Vec<u8>]) -> Result<Answer, Refusal> {
     let [key, ..] = arguments else {
         return Err(SYNTAX);
     };
@@ -249,7 +249,7 @@ fn len_of(streams: &[Stream], arguments: &[Vec<u8>]) -> Result<Answer, Refusal> 
 }
 
 /// The stream of this key, for a command that names this group.
-fn stream_for<'a>(
+fn require_stream<'a>(
     alloc: Global,
     streams: &'a [Stream],
     key: &[u8],
@@ -257,12 +257,12 @@ fn stream_for<'a>(
 ) -> Result<&'a Stream, Refusal> {
     match stream_of(streams, key) {
         Some(stream) => Ok(stream),
-        None => Err(no_group(alloc, key, name)),
+        None => Err(make_key_or_group_error(alloc, key, name)),
     }
 }
 
 /// The group of this name.
-fn group_for<'a>(
+fn require_group<'a>(
     alloc: Global,
     stream: &'a Stream,
     key: &[u8],
@@ -270,12 +270,12 @@ fn group_for<'a>(
 ) -> Result<&'a Group, Refusal> {
     match group_of(stream, name) {
         Some(group) => Ok(group),
-        None => Err(no_group(alloc, key, name)),
+        None => Err(make_key_or_group_error(alloc, key, name)),
     }
 }
 
 /// The name of the group's consumer with this number.
-fn name_of(group: &Group, number: u64) -> &[u8] {
+fn find_consumer_name(group: &Group, number: u64) -> &[u8] {
     for consumer in &group.consumers {
         if consumer.number == number {
             return &consumer.name;
@@ -285,7 +285,7 @@ fn name_of(group: &Group, number: u64) -> &[u8] {
 }
 
 /// The first entries from this id up to that one, `most` at most.
-fn entries_up(
+fn list_entries_up(
     alloc: Global,
     stream: &Stream,
     start: EntryId,
@@ -329,9 +329,9 @@ fn check_name(name: &[u8]) -> Result<(), Refusal> {
 }
 
 /// The error for an unknown command: its name, and its arguments in quotes.
-fn unknown(alloc: Global, word: &[u8], arguments: &[Vec<u8>]) -> Refusal {
-    match quoted(alloc, arguments) {
-        Ok(text) => refusal_of(
+fn make_unknown_error(alloc: Global, word: &[u8], arguments: &[Vec<u8>]) -> Refusal {
+    match quote_arguments(alloc, arguments) {
+        Ok(text) => make_refusal(
             alloc,
             &[
                 b"ERR unknown command '",
@@ -345,7 +345,7 @@ fn unknown(alloc: Global, word: &[u8], arguments: &[Vec<u8>]) -> Refusal {
 }
 
 /// The first arguments in quotes, each with a space after it, as long as they are short.
-fn quoted(alloc: Global, arguments: &[Vec<u8>]) -> Result<Vec<u8>, AllocError> {
+fn quote_arguments(alloc: Global, arguments: &[Vec<u8>]) -> Result<Vec<u8>, AllocError> {
     let mut text = Vec::new(alloc);
     for argument in arguments {
         let most = MOST_SHOWN.saturating_sub(text.len());
@@ -359,9 +359,9 @@ fn quoted(alloc: Global, arguments: &[Vec<u8>]) -> Result<Vec<u8>, AllocError> {
 }
 
 /// The error for a wrong number of arguments of a command.
-fn wrong_count(alloc: Global, word: &[u8]) -> Refusal {
+fn make_count_error(alloc: Global, word: &[u8]) -> Refusal {
     match lower(alloc, word) {
-        Ok(word) => refusal_of(
+        Ok(word) => make_refusal(
             alloc,
             &[b"ERR wrong number of arguments for '", &word, b"' command"],
         ),
@@ -370,9 +370,9 @@ fn wrong_count(alloc: Global, word: &[u8]) -> Refusal {
 }
 
 /// The error for a wrong number of arguments of a subcommand.
-fn wrong_subcount(alloc: Global, word: &[u8], subcommand: &[u8]) -> Refusal {
+fn make_subcount_error(alloc: Global, word: &[u8], subcommand: &[u8]) -> Refusal {
     match (lower(alloc, word), lower(alloc, subcommand)) {
-        (Ok(word), Ok(subcommand)) => refusal_of(
+        (Ok(word), Ok(subcommand)) => make_refusal(
             alloc,
             &[
                 b"ERR wrong number of arguments for '",
@@ -387,28 +387,28 @@ fn wrong_subcount(alloc: Global, word: &[u8], subcommand: &[u8]) -> Refusal {
 }
 
 /// The error for an unknown subcommand.
-fn unknown_subcommand(alloc: Global, word: &[u8], subcommand: &[u8]) -> Refusal {
+fn make_subcommand_error(alloc: Global, word: &[u8], subcommand: &[u8]) -> Refusal {
     let subcommand = shown(subcommand, MOST_SHOWN);
-    see_help(alloc, b"ERR unknown subcommand '", subcommand, word)
+    make_help_error(alloc, b"ERR unknown subcommand '", subcommand, word)
 }
 
 /// The error for options that the subcommand does not have.
-fn wrong_options(alloc: Global, word: &[u8], subcommand: &[u8]) -> Refusal {
+fn make_options_error(alloc: Global, word: &[u8], subcommand: &[u8]) -> Refusal {
     let fault = b"ERR unknown subcommand or wrong number of arguments for '";
-    see_help(alloc, fault, subcommand, word)
+    make_help_error(alloc, fault, subcommand, word)
 }
 
 /// The error with the subcommand and the HELP that lists the right ones.
-fn see_help(alloc: Global, fault: &[u8], subcommand: &[u8], word: &[u8]) -> Refusal {
+fn make_help_error(alloc: Global, fault: &[u8], subcommand: &[u8], word: &[u8]) -> Refusal {
     let Ok(mut upper) = Vec::from_slice(alloc, word) else {
         return Refusal::Memory;
     };
     upper.make_ascii_uppercase();
-    refusal_of(alloc, &[fault, subcommand, b"'. Try ", &upper, b" HELP."])
+    make_refusal(alloc, &[fault, subcommand, b"'. Try ", &upper, b" HELP."])
 }
 
 /// The concatenation of the texts as an error.
-fn refusal_of(alloc: Global, parts: &[&[u8]]) -> Refusal {
+fn make_refusal(alloc: Global, parts: &[&[u8]]) -> Refusal {
     let mut text = Vec::new(alloc);
     for part in parts {
         if text.extend_from_slice(part).is_err() {
@@ -419,8 +419,8 @@ fn refusal_of(alloc: Global, parts: &[&[u8]]) -> Refusal {
 }
 
 /// The NOGROUP error, in the words of XGROUP and XINFO.
-fn no_group_for(alloc: Global, key: &[u8], group: &[u8]) -> Refusal {
-    refusal_of(
+fn make_group_error(alloc: Global, key: &[u8], group: &[u8]) -> Refusal {
+    make_refusal(
         alloc,
         &[
             b"NOGROUP No such consumer group '",
@@ -433,8 +433,8 @@ fn no_group_for(alloc: Global, key: &[u8], group: &[u8]) -> Refusal {
 }
 
 /// The NOGROUP error for a missing key or group, in the words of XPENDING, XCLAIM and XAUTOCLAIM.
-fn no_group(alloc: Global, key: &[u8], group: &[u8]) -> Refusal {
-    refusal_of(
+fn make_key_or_group_error(alloc: Global, key: &[u8], group: &[u8]) -> Refusal {
+    make_refusal(
         alloc,
         &[
             b"NOGROUP No such key '",
@@ -447,7 +447,7 @@ fn no_group(alloc: Global, key: &[u8], group: &[u8]) -> Refusal {
 }
 
 /// A number as Redis takes it: with no plus sign and no leading zero.
-fn integer_in(argument: &[u8]) -> Option<i64> {
+fn parse_integer(argument: &[u8]) -> Option<i64> {
     match argument {
         [b'0'] => return Some(0),
         [b'-', b'1'..=b'9', ..] | [b'1'..=b'9', ..] => {}
@@ -460,22 +460,22 @@ fn integer_in(argument: &[u8]) -> Option<i64> {
 }
 
 /// A number of 64 bits with a sign. Any other text is an error: not an integer.
-fn integer(argument: &[u8]) -> Result<i64, Refusal> {
-    integer_in(argument).ok_or(NOT_AN_INTEGER)
+fn require_integer(argument: &[u8]) -> Result<i64, Refusal> {
+    parse_integer(argument).ok_or(NOT_AN_INTEGER)
 }
 
 /// A number of 64 bits with a sign, and 0 for a negative one. Any other text is an error: not an integer.
-fn count(argument: &[u8]) -> Result<u64, Refusal> {
-    Ok(u64::try_from(integer(argument)?).unwrap_or(0))
+fn require_count(argument: &[u8]) -> Result<u64, Refusal> {
+    Ok(u64::try_from(require_integer(argument)?).unwrap_or(0))
 }
 
 /// A number of 64 bits with a sign, and 0 for a negative one. None for any other text.
-fn count_in(argument: &[u8]) -> Option<u64> {
-    Some(u64::try_from(integer_in(argument)?).unwrap_or(0))
+fn parse_count(argument: &[u8]) -> Option<u64> {
+    Some(u64::try_from(parse_integer(argument)?).unwrap_or(0))
 }
 
 /// An id, or `-` for the smallest one and `+` for the largest one.
-fn loose_id(text: &[u8], missing: u64) -> Option<EntryId> {
+fn parse_loose_id(text: &[u8], missing: u64) -> Option<EntryId> {
     match before_nul(text) {
         [b'-'] => Some(EntryId::ZERO),
         [b'+'] => Some(EntryId::LAST),
@@ -484,8 +484,8 @@ fn loose_id(text: &[u8], missing: u64) -> Option<EntryId> {
 }
 
 /// The first id of an interval with this start.
-fn interval_start(argument: &[u8]) -> Result<EntryId, Refusal> {
-    let (id, is_exclusive) = interval_end_at(argument, 0)?;
+fn parse_interval_start(argument: &[u8]) -> Result<EntryId, Refusal> {
+    let (id, is_exclusive) = parse_interval_id(argument, 0)?;
     if !is_exclusive {
         return Ok(id);
     }
@@ -494,8 +494,8 @@ fn interval_start(argument: &[u8]) -> Result<EntryId, Refusal> {
 }
 
 /// The last id of an interval with this end.
-fn interval_end(argument: &[u8]) -> Result<EntryId, Refusal> {
-    let (id, is_exclusive) = interval_end_at(argument, u64::MAX)?;
+fn parse_interval_end(argument: &[u8]) -> Result<EntryId, Refusal> {
+    let (id, is_exclusive) = parse_interval_id(argument, u64::MAX)?;
     if !is_exclusive {
         return Ok(id);
     }
@@ -504,10 +504,10 @@ fn interval_end(argument: &[u8]) -> Result<EntryId, Refusal> {
 }
 
 /// One end of an interval, and whether it is exclusive.
-fn interval_end_at(argument: &[u8], missing: u64) -> Result<(EntryId, bool), Refusal> {
+fn parse_interval_id(argument: &[u8], missing: u64) -> Result<(EntryId, bool), Refusal> {
     let (found, is_exclusive) = match argument {
         [b'(', text @ ..] if !text.is_empty() => (strict_id(text, missing), true),
-        _ => (loose_id(argument, missing), false),
+        _ => (parse_loose_id(argument, missing), false),
     };
     match found {
         Some(id) => Ok((id, is_exclusive)),
@@ -516,7 +516,7 @@ fn interval_end_at(argument: &[u8], missing: u64) -> Result<(EntryId, bool), Ref
 }
 
 /// Reserves memory in the group for the changes, if a consumer was seen.
-fn room_of(
+fn reserve_room(
     alloc: Global,
     streams: &[Stream],
     draft: &Draft<'_>,

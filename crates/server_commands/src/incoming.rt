@@ -82,9 +82,9 @@ pub(crate) fn command_at(alloc: Global, bytes: &[u8]) -> Result<(Vec<Vec<u8>>, &
         [] => Err(Stop::Short),
         [first, ..] => {
             if *first == b'*' {
-                array_at(alloc, bytes)
+                parse_array(alloc, bytes)
             } else {
-                line_at(alloc, bytes)
+                parse_line(alloc, bytes)
             }
         }
     }
@@ -118,11 +118,11 @@ pub(crate) fn is_short(scan: &mut Scan, bytes: &[u8]) -> bool
     ensures short { OnTrue result (command_at bytes.now ≡ Err short) }
 {
     if scan.left == 0 {
-        *scan = begun(bytes);
+        *scan = begin_scan(bytes);
     }
     'words: while scan.left > 0 {
         let (_, rest) = bytes.split_at(scan.at);
-        match word_at(rest) {
+        match parse_word(rest) {
             Ok((_, behind)) => {
                 *scan = Scan {
                     at: bytes.len() - behind.len(),
@@ -131,7 +131,7 @@ pub(crate) fn is_short(scan: &mut Scan, bytes: &[u8]) -> bool
                 };
             }
             Err(Stop::Short) => {
-                scan.wanted = scan.at.saturating_add(room_of_word(rest));
+                scan.wanted = scan.at.saturating_add(compute_word_room(rest));
                 return true;
             }
             Err(_) => return false,
@@ -141,11 +141,11 @@ pub(crate) fn is_short(scan: &mut Scan, bytes: &[u8]) -> bool
 }
 
 /// The scan after the count of an array.
-fn begun(bytes: &[u8]) -> Scan
+fn begin_scan(bytes: &[u8]) -> Scan
     ensures { IsScan result bytes.now }
 {
     match bytes {
-        [first, ..] if *first == b'*' => match count_at(bytes) {
+        [first, ..] if *first == b'*' => match parse_count(bytes) {
             Ok((count, rest)) => Scan {
                 at: bytes.len() - rest.len(),
                 left: count,
@@ -158,11 +158,11 @@ fn begun(bytes: &[u8]) -> Scan
 }
 
 /// How many bytes an incomplete word will have, with its length; 0 if that is not known.
-fn room_of_word(bytes: &[u8]) -> usize {
-    let Ok((line, rest)) = head_at(ProtocolError::LongLength, bytes) else {
+fn compute_word_room(bytes: &[u8]) -> usize {
+    let Ok((line, rest)) = parse_head(ProtocolError::LongLength, bytes) else {
         return 0;
     };
-    match word_len(line) {
+    match parse_word_len(line) {
         Ok(len) => (bytes.len() - rest.len()).saturating_add(len as usize + 2),
         Err(_) => 0,
     }
@@ -170,36 +170,36 @@ fn room_of_word(bytes: &[u8]) -> usize {
 
 /// A command as an array of bulk strings.
 #[tactic(auto, unfolding(crate::specs::Incoming::array_at))]
-fn array_at(alloc: Global, bytes: &[u8]) -> Result<(Vec<Vec<u8>>, &[u8]), Stop>
+fn parse_array(alloc: Global, bytes: &[u8]) -> Result<(Vec<Vec<u8>>, &[u8]), Stop>
     ensures gives { Gives (λ x. (map (λ w. w.items) x.0.items, x.1.now)) result (array_at bytes.now) }
     ensures less { IfOk result (λ x. length x.1.now < length bytes.now) }
 {
-    let (count, rest) = count_at(bytes)?;
-    words_at(alloc, count, rest)
+    let (count, rest) = parse_count(bytes)?;
+    parse_words(alloc, count, rest)
 }
 
 /// How many words an array has, and the bytes after that.
 #[tactic(auto, unfolding(crate::specs::Incoming::count_at))]
-fn count_at(bytes: &[u8]) -> Result<(u32, &[u8]), Stop>
+fn parse_count(bytes: &[u8]) -> Result<(u32, &[u8]), Stop>
     ensures gives { Gives (λ x. (x.0, x.1.now)) result (count_at bytes.now) }
     ensures less { IfOk result (λ x. length x.1.now < length bytes.now) }
 {
-    let (line, rest) = head_at(ProtocolError::LongCount, bytes)?;
-    Ok((word_count(line)?, rest))
+    let (line, rest) = parse_head(ProtocolError::LongCount, bytes)?;
+    Ok((parse_word_count(line)?, rest))
 }
 
 /// An inline command: a line of words.
 #[tactic(auto, unfolding(crate::specs::Incoming::line_at))]
-fn line_at(alloc: Global, bytes: &[u8]) -> Result<(Vec<Vec<u8>>, &[u8]), Stop>
+fn parse_line(alloc: Global, bytes: &[u8]) -> Result<(Vec<Vec<u8>>, &[u8]), Stop>
     ensures gives { Gives (λ x. (map (λ w. w.items) x.0.items, x.1.now)) result (line_at bytes.now) }
     ensures less { IfOk result (λ x. length x.1.now < length bytes.now) }
 {
-    let (line, rest) = before(b'\n', ProtocolError::LongLine, bytes)?;
+    let (line, rest) = split_before(b'\n', ProtocolError::LongLine, bytes)?;
     Ok((split_words(alloc, line)?, rest))
 }
 
 /// The next `count` bulk strings.
-fn words_at(alloc: Global, count: u32, bytes: &[u8]) -> Result<(Vec<Vec<u8>>, &[u8]), Stop>
+fn parse_words(alloc: Global, count: u32, bytes: &[u8]) -> Result<(Vec<Vec<u8>>, &[u8]), Stop>
     ensures gives { Gives (λ x. (map (λ w. w.items) x.0.items, x.1.now)) result (words_at count bytes.now) }
     ensures within { IfOk result (λ x. length x.1.now ≤ length bytes.now) }
 {
@@ -207,7 +207,7 @@ fn words_at(alloc: Global, count: u32, bytes: &[u8]) -> Result<(Vec<Vec<u8>>, &[
     let mut rest = bytes;
     let mut left = count;
     while left > 0 {
-        let (word, behind) = word_at(rest)?;
+        let (word, behind) = parse_word(rest)?;
         words.push(Vec::from_slice(alloc, word)?)?;
         rest = behind;
         left -= 1;
@@ -217,18 +217,18 @@ fn words_at(alloc: Global, count: u32, bytes: &[u8]) -> Result<(Vec<Vec<u8>>, &[
 
 /// A bulk string: its length, its bytes, and any two bytes after them.
 #[tactic(auto, unfolding(crate::specs::Incoming::word_at))]
-fn word_at(bytes: &[u8]) -> Result<(&[u8], &[u8]), Stop>
+fn parse_word(bytes: &[u8]) -> Result<(&[u8], &[u8]), Stop>
     ensures gives { Gives (λ x. (x.0.now, x.1.now)) result (word_at bytes.now) }
     ensures within { IfOk result (λ x. length x.1.now ≤ length bytes.now) }
 {
-    let (line, rest) = head_at(ProtocolError::LongLength, bytes)?;
-    let len = word_len(line)?;
-    body_at(rest, len as usize)
+    let (line, rest) = parse_head(ProtocolError::LongLength, bytes)?;
+    let len = parse_word_len(line)?;
+    parse_body(rest, len as usize)
 }
 
 /// The next `len` bytes, with any two bytes after them.
 #[tactic(auto, unfolding(crate::specs::Incoming::body_at, crate::specs::Incoming::behind_two))]
-fn body_at(bytes: &[u8], len: usize) -> Result<(&[u8], &[u8]), Stop>
+fn parse_body(bytes: &[u8], len: usize) -> Result<(&[u8], &[u8]), Stop>
     ensures gives { Gives (λ x. (x.0.now, x.1.now)) result (body_at bytes.now len) }
     ensures within { IfOk result (λ x. length x.1.now ≤ length bytes.now) }
 {
@@ -244,17 +244,17 @@ fn body_at(bytes: &[u8], len: usize) -> Result<(&[u8], &[u8]), Stop>
 
 /// The number of words in the head of an array.
 #[tactic(auto, unfolding(crate::specs::Incoming::word_count))]
-fn word_count(line: &[u8]) -> Result<u32, Stop>
+fn parse_word_count(line: &[u8]) -> Result<u32, Stop>
     ensures { Gives (λ n. n) result (word_count line.now) }
 {
     match line {
         [] => Err(Stop::Fault(ProtocolError::BadCount)),
-        [_, digits @ ..] => count_of(number_of(digits)),
+        [_, digits @ ..] => check_count(number_of(digits)),
     }
 }
 
 /// The number of words of an array; 0 for a negative number.
-fn count_of(number: Option<i64>) -> Result<u32, Stop>
+fn check_count(number: Option<i64>) -> Result<u32, Stop>
     ensures { Gives (λ n. n) result (count_of number) }
 {
     match number {
@@ -275,14 +275,14 @@ fn count_of(number: Option<i64>) -> Result<u32, Stop>
 
 /// The length in the head of a bulk string.
 #[tactic(auto, unfolding(crate::specs::Incoming::word_len))]
-fn word_len(line: &[u8]) -> Result<u32, Stop>
+fn parse_word_len(line: &[u8]) -> Result<u32, Stop>
     ensures { Gives (λ n. n) result (word_len line.now) }
 {
     match line {
         [] => Err(Stop::Fault(ProtocolError::NoLength(b'\r'))),
         [first, digits @ ..] => {
             if *first == b'$' {
-                length_of(number_of(digits))
+                check_length(number_of(digits))
             } else {
                 Err(Stop::Fault(ProtocolError::NoLength(*first)))
             }
@@ -291,7 +291,7 @@ fn word_len(line: &[u8]) -> Result<u32, Stop>
 }
 
 /// The length of a bulk string.
-fn length_of(number: Option<i64>) -> Result<u32, Stop>
+fn check_length(number: Option<i64>) -> Result<u32, Stop>
     ensures { Gives (λ n. n) result (length_of number) }
 {
     match number {
@@ -315,7 +315,7 @@ fn length_of(number: Option<i64>) -> Result<u32, Stop>
 pub(crate) fn number_of(text: &[u8]) -> Option<i64>
     ensures { result ≡ strict_number text.now }
 {
-    match parsed_number(text) {
+    match parse_number(text) {
         None => None,
         Some(n) => {
             if is_written_so(n, text) {
@@ -328,7 +328,7 @@ pub(crate) fn number_of(text: &[u8]) -> Option<i64>
 }
 
 /// The number of a text, with any sign and leading zeros.
-fn parsed_number(text: &[u8]) -> Option<i64>
+fn parse_number(text: &[u8]) -> Option<i64>
     ensures { result ≡ number_of text.now }
 {
     let Ok(text) = str::from_utf8(text) else {
@@ -346,11 +346,11 @@ fn is_written_so(number: i64, text: &[u8]) -> bool
 
 /// The line at the head of bytes, ended by CR and one more byte, and the bytes after those.
 #[tactic(auto, unfolding(crate::specs::Incoming::head_at, crate::specs::Incoming::behind_one))]
-fn head_at(fault: ProtocolError, bytes: &[u8]) -> Result<(&[u8], &[u8]), Stop>
+fn parse_head(fault: ProtocolError, bytes: &[u8]) -> Result<(&[u8], &[u8]), Stop>
     ensures gives { Gives (λ x. (x.0.now, x.1.now)) result (head_at fault bytes.now) }
     ensures less { IfOk result (λ x. length x.1.now < length bytes.now) }
 {
-    let (line, behind) = before(b'\r', fault, bytes)?;
+    let (line, behind) = split_before(b'\r', fault, bytes)?;
     match behind {
         [] => Err(Stop::Short),
         [_, rest @ ..] => Ok((line, rest)),
@@ -359,21 +359,21 @@ fn head_at(fault: ProtocolError, bytes: &[u8]) -> Result<(&[u8], &[u8]), Stop>
 
 /// The bytes before the first `end`, and those after it. A NUL before it means that there is no end.
 #[tactic(auto, unfolding(crate::specs::Incoming::before))]
-fn before(end: u8, fault: ProtocolError, bytes: &[u8]) -> Result<(&[u8], &[u8]), Stop>
+fn split_before(end: u8, fault: ProtocolError, bytes: &[u8]) -> Result<(&[u8], &[u8]), Stop>
     ensures gives { Gives (λ x. (x.0.now, x.1.now)) result (before end fault bytes.now) }
     ensures less { IfOk result (λ x. length x.1.now < length bytes.now) }
 {
-    let len = front_len(end, bytes);
+    let len = find_front_len(end, bytes);
     if len > LONGEST_LINE {
         return Err(Stop::Fault(fault));
     }
     let (front, rest) = bytes.split_at(len);
-    ended(end, fault, bytes.len(), front, rest)
+    require_end(end, fault, bytes.len(), front, rest)
 }
 
 /// The first bytes, and what is after the byte that has to end them.
 #[tactic(auto, unfolding(crate::specs::Incoming::ended))]
-fn ended<'a>(
+fn require_end<'a>(
     end: u8,
     fault: ProtocolError,
     len: usize,
@@ -404,7 +404,7 @@ fn ended<'a>(
 }
 
 /// How many bytes are before the first `end` or NUL.
-fn front_len(end: u8, bytes: &[u8]) -> usize
+fn find_front_len(end: u8, bytes: &[u8]) -> usize
     ensures len { result ≡ prefix_len (is_before end) bytes.now }
     ensures within { result ≤ length bytes.now }
 {
@@ -424,26 +424,26 @@ pub(crate) fn push_protocol_error(
     ensures err { OnErr result (out.new.items ≡ out.old.items) }
 {
     let mut line = Vec::new(alloc);
-    push_line(&mut line, b'-', &error_text(alloc, error)?)?;
+    push_line(&mut line, b'-', &make_error_text(alloc, error)?)?;
     out.extend_from_slice(&line)?;
     Ok(())
 }
 
 /// The text of a protocol error.
-fn error_text(alloc: Global, error: ProtocolError) -> Result<Vec<u8>, AllocError>
+fn make_error_text(alloc: Global, error: ProtocolError) -> Result<Vec<u8>, AllocError>
     ensures { IfOk result (λ v. v.items ≡ error_text error) }
 {
     let mut text = Vec::from_slice(alloc, b"ERR Protocol error: ")?;
     text.extend_from_slice(error.text())?;
     if let ProtocolError::NoLength(byte) = error {
-        text.push(shown(byte))?;
+        text.push(show_byte(byte))?;
         text.push(b'\'')?;
     }
     Ok(text)
 }
 
 /// A byte as an error shows it: a space in place of CR and LF.
-fn shown(byte: u8) -> u8
+fn show_byte(byte: u8) -> u8
     ensures { result ≡ blank_end byte }
 {
     if byte == b'\r' || byte == b'\n' {

@@ -55,7 +55,7 @@ pub fn reading_news_is_the_event()
 
 /// If the entries and a group of a stream are those of a world of `model_server::group`, they are so after XREADGROUP
 /// of one key with `>`, of the world in which the consumer reads as many. It is the law of what `read_one` ensures,
-/// without `NOACK`. `BLOCK` does not wait. `COUNT` is the number that `options_in` parses.
+/// without `NOACK`. `BLOCK` does not wait. `COUNT` is the number that `parse_options` parses.
 pub fn xreadgroup_is_the_event()
     ensures { XreadgroupIsTheEvent }
 {}

@@ -44,7 +44,7 @@ pub(crate) fn split_words(alloc: Global, line: &[u8]) -> Result<Vec<Vec<u8>>, St
     let mut place = Place::Between;
     let mut rest = line;
     while let [byte, behind @ ..] = rest {
-        place = taken(alloc, &mut words, &mut word, place, *byte)?;
+        place = take_byte(alloc, &mut words, &mut word, place, *byte)?;
         rest = behind;
     }
     end_line(&mut words, word, place)?;
@@ -69,7 +69,7 @@ fn end_line(words: &mut Vec<Vec<u8>>, word: Vec<u8>, place: Place) -> Result<(),
 
 /// Takes the next byte of a line, and returns the new state.
 #[tactic(auto, unfolding(crate::specs::Quoted::turn))]
-fn taken(
+fn take_byte(
     alloc: Global,
     words: &mut Vec<Vec<u8>>,
     word: &mut Vec<u8>,
@@ -85,13 +85,13 @@ fn taken(
             if is_blank(byte) {
                 return Ok(place);
             }
-            Ok(in_word(word, byte)?)
+            Ok(take_in_word(word, byte)?)
         }
         Place::Inside => {
             if is_end(byte) {
                 return end_word(alloc, words, word);
             }
-            Ok(in_word(word, byte)?)
+            Ok(take_in_word(word, byte)?)
         }
         Place::Closed => {
             if is_blank(byte) {
@@ -99,7 +99,7 @@ fn taken(
             }
             Err(Stop::Fault(ProtocolError::UnbalancedQuotes))
         }
-        _ => Ok(in_quotes(word, place, byte)?),
+        _ => Ok(take_in_quotes(word, place, byte)?),
     }
 }
 
@@ -117,7 +117,7 @@ fn end_word(alloc: Global, words: &mut Vec<Vec<u8>>, word: &mut Vec<u8>) -> Resu
 
 /// Takes a byte of a word outside quotes.
 #[tactic(auto, unfolding(crate::specs::Quoted::in_word))]
-fn in_word(word: &mut Vec<u8>, byte: u8) -> Result<Place, AllocError>
+fn take_in_word(word: &mut Vec<u8>, byte: u8) -> Result<Place, AllocError>
     ensures { IfOk result (λ p. in_word word.old.items byte ≡ goes p word.new.items) }
 {
     if byte == b'"' {
@@ -131,46 +131,46 @@ fn in_word(word: &mut Vec<u8>, byte: u8) -> Result<Place, AllocError>
 
 /// Takes a byte in quotes.
 #[tactic(auto, unfolding(crate::specs::Quoted::turn))]
-fn in_quotes(word: &mut Vec<u8>, place: Place, byte: u8) -> Result<Place, AllocError>
+fn take_in_quotes(word: &mut Vec<u8>, place: Place, byte: u8) -> Result<Place, AllocError>
     requires inside { place ≢ Place.Between }
     requires quoted { place ≢ Place.Inside }
     requires open { place ≢ Place.Closed }
     ensures { IfOk result (λ p. turn place word.old.items byte ≡ goes p word.new.items) }
 {
     match place {
-        Place::Single => in_single(word, byte),
+        Place::Single => take_in_single(word, byte),
         Place::SingleEscape => {
             if byte == b'\'' {
-                return instead(word, 1, byte, Place::Single);
+                return replace_last(word, 1, byte, Place::Single);
             }
-            in_single(word, byte)
+            take_in_single(word, byte)
         }
         Place::Escape => {
             if byte == b'x' {
                 return put(word, byte, Place::Hex);
             }
-            put(word, escaped(byte), Place::Double)
+            put(word, decode_escape(byte), Place::Double)
         }
         Place::Hex => {
             if is_hex(byte) {
                 return put(word, byte, Place::HexDigit);
             }
-            in_double(word, byte)
+            take_in_double(word, byte)
         }
         Place::HexDigit => {
             if is_hex(byte) {
-                let value = 16 * digit_value(last_byte(word)) + digit_value(byte);
-                return instead(word, 2, value, Place::Double);
+                let value = 16 * decode_digit(find_last_byte(word)) + decode_digit(byte);
+                return replace_last(word, 2, value, Place::Double);
             }
-            in_double(word, byte)
+            take_in_double(word, byte)
         }
-        _ => in_double(word, byte),
+        _ => take_in_double(word, byte),
     }
 }
 
 /// Takes a byte in double quotes.
 #[tactic(auto, unfolding(crate::specs::Quoted::in_double))]
-fn in_double(word: &mut Vec<u8>, byte: u8) -> Result<Place, AllocError>
+fn take_in_double(word: &mut Vec<u8>, byte: u8) -> Result<Place, AllocError>
     ensures { IfOk result (λ p. in_double word.old.items byte ≡ goes p word.new.items) }
 {
     if byte == b'"' {
@@ -184,7 +184,7 @@ fn in_double(word: &mut Vec<u8>, byte: u8) -> Result<Place, AllocError>
 
 /// Takes a byte in single quotes.
 #[tactic(auto, unfolding(crate::specs::Quoted::in_single))]
-fn in_single(word: &mut Vec<u8>, byte: u8) -> Result<Place, AllocError>
+fn take_in_single(word: &mut Vec<u8>, byte: u8) -> Result<Place, AllocError>
     ensures { IfOk result (λ p. in_single word.old.items byte ≡ goes p word.new.items) }
 {
     if byte == b'\'' {
@@ -206,7 +206,12 @@ fn put(word: &mut Vec<u8>, byte: u8, place: Place) -> Result<Place, AllocError>
 }
 
 /// Replaces the last bytes of a word by this one.
-fn instead(word: &mut Vec<u8>, count: usize, byte: u8, place: Place) -> Result<Place, AllocError>
+fn replace_last(
+    word: &mut Vec<u8>,
+    count: usize,
+    byte: u8,
+    place: Place,
+) -> Result<Place, AllocError>
     ensures place { IfOk result (λ p. p ≡ place) }
     ensures word { OnOk result (word.new.items ≡ instead count word.old.items byte) }
 {
@@ -216,7 +221,7 @@ fn instead(word: &mut Vec<u8>, count: usize, byte: u8, place: Place) -> Result<P
 }
 
 /// The last byte of a word, or 0.
-fn last_byte(word: &[u8]) -> u8
+fn find_last_byte(word: &[u8]) -> u8
     ensures { result ≡ last_byte word.now }
 {
     if word.is_empty() {
@@ -233,7 +238,7 @@ fn is_hex(byte: u8) -> bool
 }
 
 /// The value of a hexadecimal digit, or 0.
-fn digit_value(digit: u8) -> u8
+fn decode_digit(digit: u8) -> u8
     ensures value { result ≡ digit_value digit }
     ensures small { result < 16 }
 {
@@ -249,7 +254,7 @@ fn digit_value(digit: u8) -> u8
 }
 
 /// The byte of an escape, by the byte after its backslash.
-fn escaped(byte: u8) -> u8
+fn decode_escape(byte: u8) -> u8
     ensures { result ≡ escaped byte }
 {
     if byte == b'n' {

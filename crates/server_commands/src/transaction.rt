@@ -78,7 +78,7 @@ pub(crate) fn answered(
         Ok(Command::Plain(command)) if session.mode == Mode::AtOnce => {
             execute_now(alloc, streams, node_entries, now, session, command, words)
         }
-        Ok(Command::Plain(command)) => queued(session, command, words),
+        Ok(Command::Plain(command)) => queue_command(session, command, words),
         Err(refusal) => reject_command(alloc, session, refusal),
     }
 }
@@ -109,12 +109,16 @@ fn execute_now(
             session.is_touched = is_touched(streams, session);
             Ok(Reply::Done(answer))
         }
-        Err(refusal) => refused(alloc, refusal),
+        Err(refusal) => reply_with_refusal(alloc, refusal),
     }
 }
 
 /// Queues a command; after an error in the transaction it is not kept.
-fn queued(session: &mut Session, command: Plain, words: Vec<Vec<u8>>) -> Result<Reply, AllocError>
+fn queue_command(
+    session: &mut Session,
+    command: Plain,
+    words: Vec<Vec<u8>>,
+) -> Result<Reply, AllocError>
     ensures err { OnErr result (session.new ≡ session.old) }
     ensures reply { IfOk result (λ r. r ≡ queued_reply) }
     ensures kept { OnOk result (session.old.mode ≡ IsQueued → session.new ≡ with_queued command words session.old) }
@@ -134,7 +138,7 @@ fn reject_command(
 ) -> Result<Reply, AllocError>
     ensures { OnErr result (session.new ≡ session.old) }
 {
-    let reply = refused(alloc, refusal)?;
+    let reply = reply_with_refusal(alloc, refusal)?;
     if session.mode != Mode::AtOnce {
         session.mode = Mode::Aborted;
     }
@@ -142,7 +146,7 @@ fn reject_command(
 }
 
 /// Replies that a command is refused.
-fn refused(alloc: Global, refusal: Refusal) -> Result<Reply, AllocError>
+fn reply_with_refusal(alloc: Global, refusal: Refusal) -> Result<Reply, AllocError>
     ensures { IfOk result (λ r. (refusal ≢ Memory) × (text : Vec ℕ) × (r ≡ Refused text)) }
 {
     Ok(Reply::Refused(refusal.into_text(alloc)?))
@@ -166,22 +170,22 @@ fn execute_step(
         → seen_streams streams.new ≡ seen_streams streams.old) }
 {
     match step {
-        Step::Begin => begun(alloc, session),
+        Step::Begin => begin_transaction(alloc, session),
         Step::Execute if words.len() > 1 => drop_queue(alloc, session, WRONG_EXECUTE),
-        Step::Execute => ended(alloc, streams, node_entries, now, session),
+        Step::Execute => execute_transaction(alloc, streams, node_entries, now, session),
         Step::Discard => discard_queue(alloc, session),
         Step::Watch => watch(alloc, streams, session, words),
     }
 }
 
 /// `MULTI`
-fn begun(alloc: Global, session: &mut Session) -> Result<Reply, AllocError>
+fn begin_transaction(alloc: Global, session: &mut Session) -> Result<Reply, AllocError>
     ensures err { OnErr result (session.new ≡ session.old) }
     ensures begins { session.old.mode ≡ AtOnce
         → (result ≡ Ok (Done Okay)) × (session.new ≡ record session.old { mode = IsQueued }) }
 {
     if session.mode != Mode::AtOnce {
-        return refused(alloc, NESTED);
+        return reply_with_refusal(alloc, NESTED);
     }
     session.mode = Mode::Queued;
     Ok(Reply::Done(Answer::Okay))
@@ -197,7 +201,7 @@ fn watch(
     ensures { OnErr result (session.new ≡ session.old) }
 {
     if session.mode != Mode::AtOnce {
-        return refused(alloc, WATCH_INSIDE);
+        return reply_with_refusal(alloc, WATCH_INSIDE);
     }
     if let [_, keys @ ..] = words {
         let mut more = note_all(alloc, streams, keys)?;
@@ -211,7 +215,7 @@ fn discard_queue(alloc: Global, session: &mut Session) -> Result<Reply, AllocErr
     ensures { OnErr result (session.new ≡ session.old) }
 {
     if session.mode == Mode::AtOnce {
-        return refused(alloc, NONE_TO_DISCARD);
+        return reply_with_refusal(alloc, NONE_TO_DISCARD);
     }
     forget(session);
     Ok(Reply::Done(Answer::Okay))
@@ -221,7 +225,7 @@ fn discard_queue(alloc: Global, session: &mut Session) -> Result<Reply, AllocErr
 fn drop_queue(alloc: Global, session: &mut Session, refusal: Refusal) -> Result<Reply, AllocError>
     ensures { OnErr result (session.new ≡ session.old) }
 {
-    let reply = refused(alloc, refusal)?;
+    let reply = reply_with_refusal(alloc, refusal)?;
     forget(session);
     Ok(reply)
 }
@@ -236,7 +240,7 @@ fn forget(session: &mut Session)
 }
 
 /// `EXEC`
-fn ended(
+fn execute_transaction(
     alloc: Global,
     streams: &mut Vec<Stream>,
     node_entries: &mut u64,
@@ -254,7 +258,7 @@ fn ended(
         × (seen_streams streams.new ≡ seen_streams streams.old) }
 {
     match session.mode {
-        Mode::AtOnce => refused(alloc, NOT_BEGUN),
+        Mode::AtOnce => reply_with_refusal(alloc, NOT_BEGUN),
         Mode::Aborted => drop_queue(alloc, session, ABORTED),
         Mode::Queued if is_touched(streams, session) => {
             forget(session);

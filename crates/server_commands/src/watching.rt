@@ -35,14 +35,14 @@ pub(crate) fn note_all(
     for key in keys {
         list.push(Watched {
             key: key.clone()?,
-            mark: mark_of(streams, key),
+            mark: make_mark(streams, key),
         })?;
     }
     Ok(list)
 }
 
 /// What the stream of the key is like.
-fn mark_of(streams: &[Stream], key: &[u8]) -> Option<Mark> {
+fn make_mark(streams: &[Stream], key: &[u8]) -> Option<Mark> {
     let stream = streams.iter().find(|stream| has_key(stream, key))?;
     Some(Mark {
         milliseconds: stream.last_id.milliseconds,

@@ -87,7 +87,7 @@ fn append(
             "ERR The stream has exhausted the last possible ID, unable to add more items",
         ));
     }
-    let Some(id) = id_for(stream.last_id, options.id, now) else {
+    let Some(id) = choose_id(stream.last_id, options.id, now) else {
         return Err(NOT_ABOVE);
     };
     stream.append(id, fields, node_entries)?;
@@ -98,7 +98,7 @@ fn append(
 }
 
 /// The id of a new entry, if there is one after the last one.
-fn id_for(last: EntryId, wanted: NewId, now: u64) -> Option<EntryId>
+fn choose_id(last: EntryId, wanted: NewId, now: u64) -> Option<EntryId>
     ensures above { IfSome result (λ id. id_order last id ≡ Less) }
     ensures wanted { IfSome result (IsIdFor last wanted now) }
     ensures fit { IfSome result Fits }

@@ -6,7 +6,9 @@ use super::draft::Draft;
 use super::id_words::{id, ids, strict_id};
 use super::places::{place_of, place_of_group};
 use super::words::{is_word, shown};
-use super::{SYNTAX, group_for, integer_in, refusal_of, room_of, settle, stream_for};
+use super::{
+    SYNTAX, make_refusal, parse_integer, require_group, require_stream, reserve_room, settle,
+};
 use crate::answer::Answer;
 use crate::refusal::Refusal;
 use server_store::{EntryId, Group, Pending, Stream};
@@ -39,8 +41,8 @@ pub(super) fn claim(
         draft,
         wanted,
         answers,
-    } = claimed(alloc, streams, now, arguments)?;
-    let room = room_of(alloc, streams, &draft)?;
+    } = prepare_claim(alloc, streams, now, arguments)?;
+    let room = reserve_room(alloc, streams, &draft)?;
     drop_missing(streams, &draft, &wanted);
     settle(streams, draft, room);
     Ok(Answer::Array(answers))
@@ -55,7 +57,7 @@ struct Outcome<'a> {
 }
 
 /// The changes and the reply.
-fn claimed<'a>(
+fn prepare_claim<'a>(
     alloc: Global,
     streams: &[Stream],
     now: u64,
@@ -64,12 +66,12 @@ fn claimed<'a>(
     let [key, name, consumer, least_idle, words @ ..] = arguments else {
         return Err(SYNTAX);
     };
-    let stream = stream_for(alloc, streams, key, name)?;
-    let group = group_for(alloc, stream, key, name)?;
-    let usual = usual_options(consumer, now, least_idle)?;
-    let (wanted, rest) = words.split_at(ids_len(words));
+    let stream = require_stream(alloc, streams, key, name)?;
+    let group = require_group(alloc, stream, key, name)?;
+    let usual = make_usual_options(consumer, now, least_idle)?;
+    let (wanted, rest) = words.split_at(count_ids(words));
     let wanted = ids(alloc, wanted)?;
-    let options = options_in(alloc, usual, rest)?;
+    let options = parse_options(alloc, usual, rest)?;
     let mut part = group.part(alloc, consumer)?;
     if options.last_id > part.last_id {
         part.last_id = options.last_id;
@@ -110,12 +112,12 @@ fn drop_missing(streams: &mut [Stream], draft: &Draft<'_>, ids: &[EntryId]) {
 }
 
 /// The options of a claim without any.
-fn usual_options<'a>(
+fn make_usual_options<'a>(
     consumer: &'a [u8],
     now: u64,
     least_idle: &[u8],
 ) -> Result<ClaimOptions<'a>, Refusal> {
-    let Some(least_idle) = integer_in(least_idle) else {
+    let Some(least_idle) = parse_integer(least_idle) else {
         return Err(Refusal::Fixed("ERR Invalid min-idle-time argument for XCLAIM"));
     };
     Ok(ClaimOptions {
@@ -131,7 +133,7 @@ fn usual_options<'a>(
 }
 
 /// How many of the first words are ids.
-fn ids_len(words: &[Vec<u8>]) -> usize
+fn count_ids(words: &[Vec<u8>]) -> usize
     ensures { result ≤ length words.now }
 {
     words
@@ -154,7 +156,7 @@ fn claim_all(
             let _was_pending = group.acknowledge(*id);
             continue;
         };
-        let Some(deliveries) = deliveries_of(group, *id, options) else {
+        let Some(deliveries) = compute_deliveries(group, *id, options) else {
             continue;
         };
         // A consumer that claims nothing is not created.
@@ -174,7 +176,7 @@ fn claim_all(
 }
 
 /// The new delivery count of the entry, if it may be claimed.
-fn deliveries_of(group: &Group, id: EntryId, options: &ClaimOptions<'_>) -> Option<u64> {
+fn compute_deliveries(group: &Group, id: EntryId, options: &ClaimOptions<'_>) -> Option<u64> {
     let more = if options.only_ids { 0 } else { 1 };
     let usual = match group.get(id) {
         Some(pending) => {
@@ -194,7 +196,7 @@ fn deliveries_of(group: &Group, id: EntryId, options: &ClaimOptions<'_>) -> Opti
 }
 
 /// The options after the ids, in any order; the last of a kind counts.
-fn options_in<'a>(
+fn parse_options<'a>(
     alloc: Global,
     usual: ClaimOptions<'a>,
     words: &[Vec<u8>],
@@ -205,13 +207,13 @@ fn options_in<'a>(
         if rest.is_empty() {
             break;
         }
-        rest = option_at(alloc, &mut options, rest)?;
+        rest = parse_option(alloc, &mut options, rest)?;
     }
     Ok(options)
 }
 
 /// Parses one option, and returns the words after it.
-fn option_at<'w>(
+fn parse_option<'w>(
     alloc: Global,
     options: &mut ClaimOptions<'_>,
     words: &'w [Vec<u8>],
@@ -228,7 +230,7 @@ fn option_at<'w>(
         return Ok(behind);
     }
     let [text, behind @ ..] = behind else {
-        return Err(unrecognized(alloc, word));
+        return Err(make_option_error(alloc, word));
     };
     put_option(alloc, options, word, text)?;
     Ok(behind)
@@ -242,22 +244,22 @@ fn put_option(
     text: &[u8],
 ) -> Result<(), Refusal> {
     if is_word(word, "IDLE") {
-        options.given_at = idle_since(options.now, text)?;
+        options.given_at = parse_idle(options.now, text)?;
     } else if is_word(word, "TIME") {
-        options.given_at = time_in(options.now, text)?;
+        options.given_at = parse_time(options.now, text)?;
     } else if is_word(word, "RETRYCOUNT") {
-        options.deliveries = deliveries_in(text)?;
+        options.deliveries = parse_deliveries(text)?;
     } else if is_word(word, "LASTID") {
         options.last_id = id(text)?;
     } else {
-        return Err(unrecognized(alloc, word));
+        return Err(make_option_error(alloc, word));
     }
     Ok(())
 }
 
 /// The time this many milliseconds ago; `now` for a negative number or one above `now`.
-fn idle_since(now: u64, text: &[u8]) -> Result<u64, Refusal> {
-    match integer_in(text) {
+fn parse_idle(now: u64, text: &[u8]) -> Result<u64, Refusal> {
+    match parse_integer(text) {
         Some(idle) => match u64::try_from(idle) {
             Ok(idle) => Ok(now.checked_sub(idle).unwrap_or(now)),
             Err(_) => Ok(now),
@@ -267,8 +269,8 @@ fn idle_since(now: u64, text: &[u8]) -> Result<u64, Refusal> {
 }
 
 /// The time; `now` if it is in the future or negative.
-fn time_in(now: u64, text: &[u8]) -> Result<u64, Refusal> {
-    match integer_in(text) {
+fn parse_time(now: u64, text: &[u8]) -> Result<u64, Refusal> {
+    match parse_integer(text) {
         Some(time) => match u64::try_from(time) {
             Ok(time) => Ok(time.min(now)),
             Err(_) => Ok(now),
@@ -278,15 +280,15 @@ fn time_in(now: u64, text: &[u8]) -> Result<u64, Refusal> {
 }
 
 /// The delivery count of RETRYCOUNT.
-fn deliveries_in(text: &[u8]) -> Result<Option<u64>, Refusal> {
-    match integer_in(text) {
+fn parse_deliveries(text: &[u8]) -> Result<Option<u64>, Refusal> {
+    match parse_integer(text) {
         Some(n) => Ok(u64::try_from(n).ok()),
         None => Err(Refusal::Fixed("ERR Invalid RETRYCOUNT option argument for XCLAIM")),
     }
 }
 
 /// The error for an option that XCLAIM does not have.
-fn unrecognized(alloc: Global, word: &[u8]) -> Refusal {
+fn make_option_error(alloc: Global, word: &[u8]) -> Refusal {
     let word = shown(word, usize::MAX);
-    refusal_of(alloc, &[b"ERR Unrecognized XCLAIM option '", word, b"'"])
+    make_refusal(alloc, &[b"ERR Unrecognized XCLAIM option '", word, b"'"])
 }

@@ -6,7 +6,7 @@ ghost use Rattle.server_commands.specs.Nodes.{IsConfigured};
 ghost use Rattle.server_commands.specs.declared.answer.Answer.TheVariants.{Okay};
 
 use super::words::{is_word, shown};
-use super::{SYNTAX, refusal_of, unknown_subcommand, wrong_subcount};
+use super::{SYNTAX, make_refusal, make_subcommand_error, make_subcount_error};
 use crate::answer::Answer;
 use crate::incoming::number_of;
 use crate::refusal::Refusal;
@@ -23,10 +23,10 @@ pub(super) fn check(alloc: Global, word: &[u8], arguments: &[Vec<u8>]) -> Result
         return Err(SYNTAX);
     };
     if !is_word(subcommand, "SET") {
-        return Err(unknown_subcommand(alloc, word, subcommand));
+        return Err(make_subcommand_error(alloc, word, subcommand));
     }
     if pairs.len() < 2 {
-        return Err(wrong_subcount(alloc, word, subcommand));
+        return Err(make_subcount_error(alloc, word, subcommand));
     }
     Ok(())
 }
@@ -50,9 +50,9 @@ pub(super) fn set(
     check_name(alloc, name)?;
     if let [other, ..] = others {
         check_name(alloc, other)?;
-        return Err(wrong_value(alloc, other, b"duplicate parameter"));
+        return Err(make_value_error(alloc, other, b"duplicate parameter"));
     }
-    *node_entries = size_in(alloc, value)?;
+    *node_entries = parse_size(alloc, value)?;
     Ok(Answer::Okay)
 }
 
@@ -64,7 +64,7 @@ fn check_name(alloc: Global, name: &[u8]) -> Result<(), Refusal>
     if is_word(name, SIZE) {
         return Ok(());
     }
-    Err(refusal_of(
+    Err(make_refusal(
         alloc,
         &[
             b"ERR Unknown option or number of arguments for CONFIG SET - '",
@@ -75,12 +75,12 @@ fn check_name(alloc: Global, name: &[u8]) -> Result<(), Refusal>
 }
 
 /// The number that the setting gets.
-fn size_in(alloc: Global, value: &[u8]) -> Result<u64, Refusal>
+fn parse_size(alloc: Global, value: &[u8]) -> Result<u64, Refusal>
     ensures ok { IfOk result (λ size. strict_number value.now ≡ Some (pos size)) }
     ensures number { (n : ℕ) → strict_number value.now ≡ Some (pos n) → result ≡ Ok n }
 {
     let Some(size) = number_of(value) else {
-        return Err(wrong_value(
+        return Err(make_value_error(
             alloc,
             SIZE.as_bytes(),
             b"argument couldn't be parsed into an integer",
@@ -88,7 +88,7 @@ fn size_in(alloc: Global, value: &[u8]) -> Result<u64, Refusal>
     };
     match u64::try_from(size) {
         Ok(size) => Ok(size),
-        Err(_) => Err(wrong_value(
+        Err(_) => Err(make_value_error(
             alloc,
             SIZE.as_bytes(),
             b"argument must be between 0 and 9223372036854775807 inclusive",
@@ -97,8 +97,8 @@ fn size_in(alloc: Global, value: &[u8]) -> Result<u64, Refusal>
 }
 
 /// The error for a setting of this name, and why.
-fn wrong_value(alloc: Global, name: &[u8], fault: &[u8]) -> Refusal {
-    refusal_of(
+fn make_value_error(alloc: Global, name: &[u8], fault: &[u8]) -> Refusal {
+    make_refusal(
         alloc,
         &[
             b"ERR CONFIG SET failed (possibly related to argument '",

@@ -4,8 +4,8 @@ ghost use Rattle.std.specs.Prelude.{◌≡◌, ◌<◌, length, IfOk, OnErr};
 use super::answers::bytes_answer;
 use super::words::is_word;
 use super::{
-    NOT_AN_INTEGER, SYNTAX, check_name, hello, integer_in, unknown_subcommand, wrong_count,
-    wrong_subcount,
+    NOT_AN_INTEGER, SYNTAX, check_name, hello, make_count_error, make_subcommand_error,
+    make_subcount_error, parse_integer,
 };
 use crate::answer::{Answer, Status};
 use crate::refusal::Refusal;
@@ -56,7 +56,7 @@ pub(super) fn answered(
             Ok(Answer::Okay)
         }
         Connection::Select => select(arguments),
-        Connection::Client => client(alloc, session, word, arguments),
+        Connection::Client => run_client(alloc, session, word, arguments),
     }
 }
 
@@ -65,7 +65,7 @@ fn ping(alloc: Global, word: &[u8], arguments: &[Vec<u8>]) -> Result<Answer, Ref
     match arguments {
         [] => Ok(Answer::Status(Status::Pong)),
         [text] => Ok(Answer::Bytes(text.clone()?)),
-        _ => Err(wrong_count(alloc, word)),
+        _ => Err(make_count_error(alloc, word)),
     }
 }
 
@@ -74,7 +74,7 @@ fn select(arguments: &[Vec<u8>]) -> Result<Answer, Refusal> {
     let [index, ..] = arguments else {
         return Err(SYNTAX);
     };
-    match integer_in(index) {
+    match parse_integer(index) {
         Some(0) => Ok(Answer::Okay),
         Some(n) if i32::try_from(n).is_err() => Err(WIDE_INDEX),
         Some(_) => Err(NO_SUCH_INDEX),
@@ -83,7 +83,7 @@ fn select(arguments: &[Vec<u8>]) -> Result<Answer, Refusal> {
 }
 
 /// `CLIENT SETNAME name`, `CLIENT GETNAME`, `CLIENT ID`
-fn client(
+fn run_client(
     alloc: Global,
     session: &mut Session,
     word: &[u8],
@@ -91,9 +91,9 @@ fn client(
 ) -> Result<Answer, Refusal>
     ensures { OnErr result (session.new ≡ session.old) }
 {
-    match action_in(alloc, word, arguments)? {
+    match parse_action(alloc, word, arguments)? {
         Action::SetName => set_name(alloc, session, arguments),
-        Action::GetName => name_answer(alloc, &session.name),
+        Action::GetName => reply_with_name(alloc, &session.name),
         Action::Id => Ok(Answer::Int(1)),
     }
 }
@@ -102,26 +102,26 @@ fn client(
 pub(super) fn check(alloc: Global, word: &[u8], arguments: &[Vec<u8>]) -> Result<(), Refusal>
     ensures { IfOk result (λ _. 0 < length arguments.now) }
 {
-    let _action = action_in(alloc, word, arguments)?;
+    let _action = parse_action(alloc, word, arguments)?;
     Ok(())
 }
 
 /// The action of this name, if it may have this many arguments.
-fn action_in(alloc: Global, word: &[u8], arguments: &[Vec<u8>]) -> Result<Action, Refusal>
+fn parse_action(alloc: Global, word: &[u8], arguments: &[Vec<u8>]) -> Result<Action, Refusal>
     ensures { IfOk result (λ _. 0 < length arguments.now) }
 {
     let [subcommand, behind @ ..] = arguments else {
         return Err(SYNTAX);
     };
-    match action_named(subcommand) {
+    match find_action(subcommand) {
         Some(action) if has_right_count(action, behind.len()) => Ok(action),
-        Some(_) => Err(wrong_subcount(alloc, word, subcommand)),
-        None => Err(unknown_subcommand(alloc, word, subcommand)),
+        Some(_) => Err(make_subcount_error(alloc, word, subcommand)),
+        None => Err(make_subcommand_error(alloc, word, subcommand)),
     }
 }
 
 /// The action of this name.
-fn action_named(subcommand: &[u8]) -> Option<Action> {
+fn find_action(subcommand: &[u8]) -> Option<Action> {
     if is_word(subcommand, "SETNAME") {
         Some(Action::SetName)
     } else if is_word(subcommand, "GETNAME") {
@@ -154,7 +154,7 @@ fn set_name(alloc: Global, session: &mut Session, arguments: &[Vec<u8>]) -> Resu
 }
 
 /// `GETNAME` of a connection with this name.
-fn name_answer(alloc: Global, name: &[u8]) -> Result<Answer, Refusal> {
+fn reply_with_name(alloc: Global, name: &[u8]) -> Result<Answer, Refusal> {
     if name.is_empty() {
         return Ok(Answer::Nil);
     }

@@ -9,8 +9,8 @@ use super::id_words::strict_id;
 use super::places::{place_of, place_of_group};
 use super::words::is_word;
 use super::{
-    INVALID_ID, SYNTAX, help, integer, loose_id, no_group_for, unknown_subcommand, wrong_options,
-    wrong_subcount,
+    INVALID_ID, SYNTAX, help, make_group_error, make_options_error, make_subcommand_error,
+    make_subcount_error, parse_loose_id, require_integer,
 };
 use crate::answer::Answer;
 use crate::refusal::Refusal;
@@ -43,14 +43,14 @@ pub(super) fn group(
 ) -> Result<Answer, Refusal>
     ensures { OnErr result (seen_streams streams.new ≡ seen_streams streams.old) }
 {
-    let action = action_in(alloc, word, arguments)?;
+    let action = parse_action(alloc, word, arguments)?;
     if action == Action::Help {
         return Ok(help::of_groups(alloc)?);
     }
     let [subcommand, key, name, rest @ ..] = arguments else {
         return Err(SYNTAX);
     };
-    let options = options_in(alloc, action, word, subcommand, rest)?;
+    let options = parse_options(alloc, action, word, subcommand, rest)?;
     match place_of(streams, key) {
         Ok(index) => execute_on(alloc, &mut streams[index], now, action, arguments, options),
         Err(_) if options.makes_stream => create_stream(alloc, streams, key, name, rest, options),
@@ -82,7 +82,7 @@ fn execute_on(
         }
         Ok(place) => change_group(alloc, stream, place, now, action, rest, options),
         Err(_) if action == Action::Destroy => Ok(Answer::Int(0)),
-        Err(_) => Err(no_group_for(alloc, key, name)),
+        Err(_) => Err(make_group_error(alloc, key, name)),
     }
 }
 
@@ -90,26 +90,26 @@ fn execute_on(
 pub(super) fn check(alloc: Global, word: &[u8], arguments: &[Vec<u8>]) -> Result<(), Refusal>
     ensures { IfOk result (λ _. 0 < length arguments.now) }
 {
-    let _action = action_in(alloc, word, arguments)?;
+    let _action = parse_action(alloc, word, arguments)?;
     Ok(())
 }
 
 /// The action of this name, if it may have this many arguments.
-fn action_in(alloc: Global, word: &[u8], arguments: &[Vec<u8>]) -> Result<Action, Refusal>
+fn parse_action(alloc: Global, word: &[u8], arguments: &[Vec<u8>]) -> Result<Action, Refusal>
     ensures { IfOk result (λ _. 0 < length arguments.now) }
 {
     let [subcommand, behind @ ..] = arguments else {
         return Err(SYNTAX);
     };
-    match action_named(subcommand) {
+    match find_action(subcommand) {
         Some(action) if has_right_count(action, behind.len()) => Ok(action),
-        Some(_) => Err(wrong_subcount(alloc, word, subcommand)),
-        None => Err(unknown_subcommand(alloc, word, subcommand)),
+        Some(_) => Err(make_subcount_error(alloc, word, subcommand)),
+        None => Err(make_subcommand_error(alloc, word, subcommand)),
     }
 }
 
 /// The action of this name.
-fn action_named(subcommand: &[u8]) -> Option<Action> {
+fn find_action(subcommand: &[u8]) -> Option<Action> {
     if is_word(subcommand, "CREATE") {
         Some(Action::Create)
     } else if is_word(subcommand, "SETID") {
@@ -145,7 +145,7 @@ struct GroupOptions {
 }
 
 /// The options after the id, or after the name of a consumer.
-fn options_in(
+fn parse_options(
     alloc: Global,
     action: Action,
     word: &[u8],
@@ -169,18 +169,18 @@ fn options_in(
                 rest = after;
             }
             [option, text, after @ ..] if takes_count && is_word(option, "ENTRIESREAD") => {
-                options.entries_read = entries_read_in(text)?;
+                options.entries_read = parse_entries_read(text)?;
                 rest = after;
             }
-            _ => return Err(wrong_options(alloc, word, subcommand)),
+            _ => return Err(make_options_error(alloc, word, subcommand)),
         }
     }
     Ok(options)
 }
 
 /// The number of ENTRIESREAD; -1 means that it is not known.
-fn entries_read_in(text: &[u8]) -> Result<Option<i64>, Refusal> {
-    let n = integer(text)?;
+fn parse_entries_read(text: &[u8]) -> Result<Option<i64>, Refusal> {
+    let n = require_integer(text)?;
     if n < -1 {
         return Err(Refusal::Fixed("ERR value for ENTRIESREAD must be positive or -1"));
     }
@@ -198,7 +198,7 @@ enum Start {
 
 impl Start {
     /// The id at which it begins, in a stream with this last id.
-    fn id(self, last_id: EntryId) -> EntryId
+    fn find_id(self, last_id: EntryId) -> EntryId
         ensures { result ≡ start_id self last_id }
     {
         match self {
@@ -209,7 +209,7 @@ impl Start {
 }
 
 /// The start of a group by the first of the words.
-fn start_in(words: &[Vec<u8>]) -> Result<Start, Refusal>
+fn parse_start(words: &[Vec<u8>]) -> Result<Start, Refusal>
     ensures { IfOk result (λ start. HoldsAt (IsStartIn start) words.now 0) }
 {
     let [text, ..] = words else {
@@ -256,12 +256,12 @@ fn create(
         stream.old stream.new) }
     ensures err { OnErr result (seen_stream stream.new ≡ seen_stream stream.old) }
 {
-    let start = start_in(words)?;
+    let start = parse_start(words)?;
     let Err(place) = place_of_group(stream, name) else {
         return Err(Refusal::Fixed("BUSYGROUP Consumer Group name already exists"));
     };
     let name = Vec::from_slice(alloc, name)?;
-    let last_id = start.id(stream.last_id);
+    let last_id = start.find_id(stream.last_id);
     let group = Group::new(alloc, name, last_id, options.entries_read);
     stream.groups.insert(place, group)?;
     Ok(Answer::Okay)
@@ -287,7 +287,7 @@ fn change_group(
     }
     match action {
         Action::SetId => {
-            let last_id = moved_to(stream.last_id, word)?;
+            let last_id = parse_last_id(stream.last_id, word)?;
             move_group(&mut stream.groups[place], last_id, options);
             Ok(Answer::Okay)
         }
@@ -304,11 +304,11 @@ fn change_group(
 }
 
 /// The id of `SETID`, in a stream with this last id.
-fn moved_to(last_id: EntryId, word: &[u8]) -> Result<EntryId, Refusal> {
+fn parse_last_id(last_id: EntryId, word: &[u8]) -> Result<EntryId, Refusal> {
     if word == b"$".as_slice() {
         Ok(last_id)
     } else {
-        loose_id(word, 0).ok_or(INVALID_ID)
+        parse_loose_id(word, 0).ok_or(INVALID_ID)
     }
 }
 

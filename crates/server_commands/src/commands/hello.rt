@@ -3,7 +3,7 @@ ghost use Rattle.std.specs.Prelude.{◌≡◌, OnErr};
 
 use super::answers::bytes_answer;
 use super::words::{is_word, shown};
-use super::{check_name, integer_in, put_row, refusal_of};
+use super::{check_name, make_refusal, parse_integer, put_row};
 use crate::answer::Answer;
 use crate::refusal::Refusal;
 use crate::session::Session;
@@ -30,12 +30,12 @@ pub(super) fn hello(
     ensures { OnErr result (session.new ≡ session.old) }
 {
     let [version, words @ ..] = arguments else {
-        return Ok(greeting(alloc, session.protocol)?);
+        return Ok(make_greeting(alloc, session.protocol)?);
     };
-    let protocol = protocol_in(version)?;
-    let options = options_in(alloc, words)?;
+    let protocol = parse_protocol(version)?;
+    let options = parse_options(alloc, words)?;
     check_user(options.user)?;
-    let answer = greeting(alloc, protocol)?;
+    let answer = make_greeting(alloc, protocol)?;
     if let Some(name) = options.name {
         session.name = Vec::from_slice(alloc, name)?;
     }
@@ -44,8 +44,8 @@ pub(super) fn hello(
 }
 
 /// The protocol of this version.
-fn protocol_in(version: &[u8]) -> Result<Protocol, Refusal> {
-    match integer_in(version) {
+fn parse_protocol(version: &[u8]) -> Result<Protocol, Refusal> {
+    match parse_integer(version) {
         Some(2) => Ok(Protocol::Resp2),
         Some(3) => Ok(Protocol::Resp3),
         Some(_) => Err(Refusal::Fixed("NOPROTO unsupported protocol version")),
@@ -54,7 +54,7 @@ fn protocol_in(version: &[u8]) -> Result<Protocol, Refusal> {
 }
 
 /// The options, in any order.
-fn options_in(alloc: Global, words: &[Vec<u8>]) -> Result<Options<'_>, Refusal> {
+fn parse_options(alloc: Global, words: &[Vec<u8>]) -> Result<Options<'_>, Refusal> {
     let mut options = Options {
         user: None,
         name: None,
@@ -63,14 +63,14 @@ fn options_in(alloc: Global, words: &[Vec<u8>]) -> Result<Options<'_>, Refusal> 
     for _ in 0..words.len() {
         match rest {
             [] => break,
-            _ => rest = option_at(alloc, &mut options, rest)?,
+            _ => rest = parse_option(alloc, &mut options, rest)?,
         }
     }
     Ok(options)
 }
 
 /// Parses one option, and returns the words after it.
-fn option_at<'a>(
+fn parse_option<'a>(
     alloc: Global,
     options: &mut Options<'a>,
     words: &'a [Vec<u8>],
@@ -85,14 +85,14 @@ fn option_at<'a>(
             options.name = Some(name.as_slice());
             Ok(behind)
         }
-        [word, ..] => Err(wrong_option(alloc, word)),
+        [word, ..] => Err(make_option_error(alloc, word)),
         [] => Ok(words),
     }
 }
 
 /// The error for an option that HELLO does not have.
-fn wrong_option(alloc: Global, word: &[u8]) -> Refusal {
-    refusal_of(
+fn make_option_error(alloc: Global, word: &[u8]) -> Refusal {
+    make_refusal(
         alloc,
         &[
             b"ERR Syntax error in HELLO option '",
@@ -111,7 +111,7 @@ fn check_user(user: Option<&[u8]>) -> Result<(), Refusal> {
 }
 
 /// The reply of HELLO.
-fn greeting(alloc: Global, protocol: Protocol) -> Result<Answer, AllocError> {
+fn make_greeting(alloc: Global, protocol: Protocol) -> Result<Answer, AllocError> {
     let version = match protocol {
         Protocol::Resp2 => 2,
         Protocol::Resp3 => 3,

@@ -10,7 +10,7 @@ use std::alloc::{AllocError, Global};
 pub(super) fn of_groups(alloc: Global) -> Result<Answer, AllocError>
     ensures { IfOk result IsInfo }
 {
-    lines(
+    reply_with_lines(
         alloc,
         &[
             "XGROUP <subcommand> [<arg> [value] [opt] ...]. Subcommands are:",
@@ -38,7 +38,7 @@ pub(super) fn of_groups(alloc: Global) -> Result<Answer, AllocError>
 pub(super) fn of_info(alloc: Global) -> Result<Answer, AllocError>
     ensures { IfOk result IsInfo }
 {
-    lines(
+    reply_with_lines(
         alloc,
         &[
             "XINFO <subcommand> [<arg> [value] [opt] ...]. Subcommands are:",
@@ -55,7 +55,7 @@ pub(super) fn of_info(alloc: Global) -> Result<Answer, AllocError>
 }
 
 /// The lines as one reply.
-fn lines(alloc: Global, texts: &[&'static str]) -> Result<Answer, AllocError>
+fn reply_with_lines(alloc: Global, texts: &[&'static str]) -> Result<Answer, AllocError>
     ensures { IfOk result IsInfo }
 {
     let mut answers = Vec::new(alloc);

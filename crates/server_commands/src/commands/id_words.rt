@@ -7,7 +7,7 @@ ghost use Rattle.server_store.specs.EntryId.{id_text};
 ghost use Rattle.server_store.specs.declared.entry_id.EntryId.{EntryId};
 
 use super::words::before_nul;
-use super::{INVALID_ID, integer_in};
+use super::{INVALID_ID, parse_integer};
 use crate::refusal::Refusal;
 use server_store::EntryId;
 use std::alloc::Global;
@@ -22,24 +22,24 @@ pub(super) enum Sequence {
 }
 
 /// The number of a part of an id: spaces and a sign may be before it. After a minus it counts down from 2 to
-/// the power of 64. None for what `integer_in` parses as negative.
-fn number_in(text: &[u8]) -> Option<u64>
+/// the power of 64. None for what `parse_integer` parses as negative.
+fn parse_number(text: &[u8]) -> Option<u64>
     ensures { (n : ℕ) → n < 2 ^ 64 → text.now ≡ decimal n → result ≡ Some n }
 {
-    match without_blanks(text) {
+    match strip_blanks(text) {
         [b'-', digits @ ..] => {
-            if matches!(integer_in(text), Some(n) if n < 0) {
+            if matches!(parse_integer(text), Some(n) if n < 0) {
                 return None;
             }
-            Some(0u64.wrapping_sub(digits_in(digits)?))
+            Some(0u64.wrapping_sub(parse_digits(digits)?))
         }
-        [b'+', digits @ ..] => digits_in(digits),
-        digits => digits_in(digits),
+        [b'+', digits @ ..] => parse_digits(digits),
+        digits => parse_digits(digits),
     }
 }
 
 /// The text without its leading spaces.
-fn without_blanks(text: &[u8]) -> &[u8]
+fn strip_blanks(text: &[u8]) -> &[u8]
     ensures { 48 ≤ slice_index_or text.now 0 0 → result.now ≡ text.now }
 {
     let mut rest = text;
@@ -53,7 +53,7 @@ fn without_blanks(text: &[u8]) -> &[u8]
 }
 
 /// Parses decimal digits, without a sign, as a number of 64 bits.
-fn digits_in(text: &[u8]) -> Option<u64>
+fn parse_digits(text: &[u8]) -> Option<u64>
     ensures { (n : ℕ) → n < 2 ^ 64 → text.now ≡ decimal n → result ≡ Some n }
 {
     if let [b'+', ..] = text {
@@ -74,21 +74,21 @@ pub(super) fn parts_in(text: &[u8]) -> Option<(u64, Sequence)>
     if text.len() > 127 {
         return None;
     }
-    let (front, behind) = at_dash(before_nul(text));
-    let milliseconds = number_in(front)?;
-    Some((milliseconds, sequence_in(behind)?))
+    let (front, behind) = split_at_dash(before_nul(text));
+    let milliseconds = parse_number(front)?;
+    Some((milliseconds, parse_sequence(behind)?))
 }
 
 /// The text before the first `-`, and the rest from there on.
-fn at_dash(text: &[u8]) -> (&[u8], &[u8])
+fn split_at_dash(text: &[u8]) -> (&[u8], &[u8])
     ensures front { result.0.now ≡ take (prefix_len is_of_part text.now) text.now }
     ensures behind { result.1.now ≡ drop (prefix_len is_of_part text.now) text.now }
 {
-    text.split_at(front_len(text))
+    text.split_at(find_front_len(text))
 }
 
 /// How many bytes are before the first `-`.
-fn front_len(text: &[u8]) -> usize
+fn find_front_len(text: &[u8]) -> usize
     ensures len { result ≡ prefix_len is_of_part text.now }
     ensures within { result ≤ length text.now }
 {
@@ -96,14 +96,14 @@ fn front_len(text: &[u8]) -> usize
 }
 
 /// The sequence number that is after the `-`, if there is one.
-fn sequence_in(text: &[u8]) -> Option<Sequence>
+fn parse_sequence(text: &[u8]) -> Option<Sequence>
     ensures given { (n : ℕ) → n < 2 ^ 64 → text.now ≡ 45 ∷ decimal n → result ≡ Some (Given n) }
     ensures missing { text.now ≡ [] → result ≡ Some Missing }
 {
     match text {
         [] => Some(Sequence::Missing),
         [_, b'*'] => Some(Sequence::Automatic),
-        [_, digits @ ..] => Some(Sequence::Given(number_in(digits)?)),
+        [_, digits @ ..] => Some(Sequence::Given(parse_number(digits)?)),
     }
 }
 

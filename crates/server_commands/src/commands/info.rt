@@ -8,7 +8,8 @@ use super::answers::{bytes_answer, entry_answer, length, number, put};
 use super::places::{group_of, stream_of};
 use super::words::is_word;
 use super::{
-    SYNTAX, help, integer, no_group_for, put_row, unknown_subcommand, wrong_options, wrong_subcount,
+    SYNTAX, help, make_group_error, make_options_error, make_subcommand_error, make_subcount_error,
+    put_row, require_integer,
 };
 use crate::answer::Answer;
 use crate::refusal::Refusal;
@@ -36,14 +37,14 @@ pub(super) fn info(
 ) -> Result<Answer, Refusal>
     ensures { IfOk result IsInfo }
 {
-    match topic_in(alloc, word, arguments)? {
+    match parse_topic(alloc, word, arguments)? {
         Topic::Help => Ok(help::of_info(alloc)?),
-        topic => about(alloc, streams, now, topic, word, arguments),
+        topic => reply_about(alloc, streams, now, topic, word, arguments),
     }
 }
 
 /// The reply of XINFO about a stream.
-fn about(
+fn reply_about(
     alloc: Global,
     streams: &[Stream],
     now: u64,
@@ -58,14 +59,14 @@ fn about(
     };
     let stream = stream_of(streams, key).ok_or(NO_KEY)?;
     match topic {
-        Topic::Groups => Ok(groups_info(alloc, stream)?),
-        Topic::Consumers => about_consumers(alloc, stream, now, key, rest),
-        _ => about_stream(alloc, stream, word, subcommand, rest),
+        Topic::Groups => Ok(describe_groups(alloc, stream)?),
+        Topic::Consumers => reply_about_consumers(alloc, stream, now, key, rest),
+        _ => reply_about_stream(alloc, stream, word, subcommand, rest),
     }
 }
 
 /// `XINFO STREAM`, in one of its two forms.
-fn about_stream(
+fn reply_about_stream(
     alloc: Global,
     stream: &Stream,
     word: &[u8],
@@ -74,14 +75,14 @@ fn about_stream(
 ) -> Result<Answer, Refusal>
     ensures { IfOk result IsInfo }
 {
-    match full_in(alloc, word, subcommand, options)? {
+    match parse_full(alloc, word, subcommand, options)? {
         Some(most) => Ok(full::stream_in_full(alloc, stream, most)?),
-        None => Ok(stream_info(alloc, stream)?),
+        None => Ok(describe_stream(alloc, stream)?),
     }
 }
 
 /// `XINFO CONSUMERS` of the stream of this key; the group is named after it.
-fn about_consumers(
+fn reply_about_consumers(
     alloc: Global,
     stream: &Stream,
     now: u64,
@@ -94,8 +95,8 @@ fn about_consumers(
         return Err(SYNTAX);
     };
     match group_of(stream, name) {
-        Some(group) => Ok(consumers_info(alloc, group, now)?),
-        None => Err(no_group_for(alloc, key, name)),
+        Some(group) => Ok(describe_consumers(alloc, group, now)?),
+        None => Err(make_group_error(alloc, key, name)),
     }
 }
 
@@ -103,26 +104,26 @@ fn about_consumers(
 pub(super) fn check(alloc: Global, word: &[u8], arguments: &[Vec<u8>]) -> Result<(), Refusal>
     ensures { IfOk result (λ _. 0 < length_of arguments.now) }
 {
-    let _topic = topic_in(alloc, word, arguments)?;
+    let _topic = parse_topic(alloc, word, arguments)?;
     Ok(())
 }
 
 /// The topic of this name, if it may have this many arguments.
-fn topic_in(alloc: Global, word: &[u8], arguments: &[Vec<u8>]) -> Result<Topic, Refusal>
+fn parse_topic(alloc: Global, word: &[u8], arguments: &[Vec<u8>]) -> Result<Topic, Refusal>
     ensures { IfOk result (λ _. 0 < length_of arguments.now) }
 {
     let [subcommand, behind @ ..] = arguments else {
         return Err(SYNTAX);
     };
-    match topic_named(subcommand) {
+    match find_topic(subcommand) {
         Some(topic) if has_right_count(topic, behind.len()) => Ok(topic),
-        Some(_) => Err(wrong_subcount(alloc, word, subcommand)),
-        None => Err(unknown_subcommand(alloc, word, subcommand)),
+        Some(_) => Err(make_subcount_error(alloc, word, subcommand)),
+        None => Err(make_subcommand_error(alloc, word, subcommand)),
     }
 }
 
 /// The topic of this name.
-fn topic_named(subcommand: &[u8]) -> Option<Topic> {
+fn find_topic(subcommand: &[u8]) -> Option<Topic> {
     if is_word(subcommand, "STREAM") {
         Some(Topic::Stream)
     } else if is_word(subcommand, "GROUPS") {
@@ -147,7 +148,7 @@ fn has_right_count(topic: Topic, count: usize) -> bool {
 }
 
 /// `[FULL [COUNT count]]`: at most how many entries are returned with FULL; 0 for no limit.
-fn full_in(
+fn parse_full(
     alloc: Global,
     word: &[u8],
     subcommand: &[u8],
@@ -157,9 +158,9 @@ fn full_in(
         [] => Ok(None),
         [full] if is_word(full, "FULL") => Ok(Some(10)),
         [full, count, text] if is_word(full, "FULL") && is_word(count, "COUNT") => {
-            Ok(Some(u64::try_from(integer(text)?).unwrap_or(10)))
+            Ok(Some(u64::try_from(require_integer(text)?).unwrap_or(10)))
         }
-        _ => Err(wrong_options(alloc, word, subcommand)),
+        _ => Err(make_options_error(alloc, word, subcommand)),
     }
 }
 
@@ -176,7 +177,7 @@ fn put_rows(
 }
 
 /// The first fields of both forms of XINFO STREAM.
-fn head_rows(alloc: Global, stream: &Stream) -> Result<Vec<(Vec<u8>, Answer)>, AllocError> {
+fn make_head_rows(alloc: Global, stream: &Stream) -> Result<Vec<(Vec<u8>, Answer)>, AllocError> {
     let mut rows = Vec::new(alloc);
     let nodes = stream.nodes.len();
     let head = vec![in alloc;
@@ -193,12 +194,12 @@ fn head_rows(alloc: Global, stream: &Stream) -> Result<Vec<(Vec<u8>, Answer)>, A
 }
 
 /// `XINFO STREAM key`
-fn stream_info(alloc: Global, stream: &Stream) -> Result<Answer, AllocError>
+fn describe_stream(alloc: Global, stream: &Stream) -> Result<Answer, AllocError>
     ensures { IfOk result IsInfo }
 {
-    let mut rows = head_rows(alloc, stream)?;
-    let first = maybe_entry(alloc, stream.entries.front())?;
-    let last = maybe_entry(alloc, stream.entries.back())?;
+    let mut rows = make_head_rows(alloc, stream)?;
+    let first = make_entry_or_nil(alloc, stream.entries.front())?;
+    let last = make_entry_or_nil(alloc, stream.entries.back())?;
     let rest = vec![in alloc;
         ("groups", length(stream.groups.len())),
         ("first-entry", first),
@@ -209,7 +210,7 @@ fn stream_info(alloc: Global, stream: &Stream) -> Result<Answer, AllocError>
 }
 
 /// The entry, or nil if there is none.
-fn maybe_entry(alloc: Global, entry: Option<&Entry>) -> Result<Answer, AllocError> {
+fn make_entry_or_nil(alloc: Global, entry: Option<&Entry>) -> Result<Answer, AllocError> {
     match entry {
         Some(entry) => entry_answer(alloc, entry),
         None => Ok(Answer::Nil),
@@ -217,26 +218,26 @@ fn maybe_entry(alloc: Global, entry: Option<&Entry>) -> Result<Answer, AllocErro
 }
 
 /// `XINFO GROUPS key`
-fn groups_info(alloc: Global, stream: &Stream) -> Result<Answer, AllocError>
+fn describe_groups(alloc: Global, stream: &Stream) -> Result<Answer, AllocError>
     ensures { IfOk result IsInfo }
 {
     let mut all = Vec::new(alloc);
     for group in &stream.groups {
-        put(&mut all, group_info(alloc, stream, group)?)?;
+        put(&mut all, describe_group(alloc, stream, group)?)?;
     }
     Ok(Answer::Array(all))
 }
 
 /// The reply of XINFO GROUPS about one group.
-fn group_info(alloc: Global, stream: &Stream, group: &Group) -> Result<Answer, AllocError> {
+fn describe_group(alloc: Global, stream: &Stream, group: &Group) -> Result<Answer, AllocError> {
     let name = bytes_answer(alloc, &group.name)?;
     let told = vec![in alloc;
         ("name", name),
         ("consumers", length(group.consumers.len())),
         ("pending", length(group.pending.len())),
         ("last-delivered-id", Answer::Id(group.last_id)),
-        ("entries-read", number_or_nil(group.entries_read)),
-        ("lag", number_or_nil(lag(stream, group))),
+        ("entries-read", make_number_or_nil(group.entries_read)),
+        ("lag", make_number_or_nil(compute_lag(stream, group))),
     ]?;
     let mut rows = Vec::new(alloc);
     put_rows(alloc, &mut rows, told)?;
@@ -244,7 +245,7 @@ fn group_info(alloc: Global, stream: &Stream, group: &Group) -> Result<Answer, A
 }
 
 /// A number, or nil if it is not known.
-fn number_or_nil(n: Option<i64>) -> Answer {
+fn make_number_or_nil(n: Option<i64>) -> Answer {
     match n {
         Some(n) => Answer::Int(n),
         None => Answer::Nil,
@@ -252,7 +253,7 @@ fn number_or_nil(n: Option<i64>) -> Answer {
 }
 
 /// How many entries the group has still to read, if that is known.
-fn lag(stream: &Stream, group: &Group) -> Option<i64> {
+fn compute_lag(stream: &Stream, group: &Group) -> Option<i64> {
     if stream.entries_added == 0 {
         return Some(0);
     }
@@ -266,18 +267,18 @@ fn lag(stream: &Stream, group: &Group) -> Option<i64> {
 }
 
 /// `XINFO CONSUMERS key group`
-fn consumers_info(alloc: Global, group: &Group, now: u64) -> Result<Answer, AllocError>
+fn describe_consumers(alloc: Global, group: &Group, now: u64) -> Result<Answer, AllocError>
     ensures { IfOk result IsInfo }
 {
     let mut all = Vec::new(alloc);
     for consumer in &group.consumers {
-        put(&mut all, consumer_info(alloc, consumer, now)?)?;
+        put(&mut all, describe_consumer(alloc, consumer, now)?)?;
     }
     Ok(Answer::Array(all))
 }
 
 /// The reply of XINFO CONSUMERS about one consumer.
-fn consumer_info(alloc: Global, consumer: &Consumer, now: u64) -> Result<Answer, AllocError> {
+fn describe_consumer(alloc: Global, consumer: &Consumer, now: u64) -> Result<Answer, AllocError> {
     let name = bytes_answer(alloc, &consumer.name)?;
     let told = vec![in alloc;
         ("name", name),

@@ -11,8 +11,8 @@ use super::connection::Connection;
 use super::report::Report;
 use super::words::is_word;
 use super::{
-    Change, Command, LookUp, Plain, SYNTAX, Step, config, connection, group, info, report, unknown,
-    wrong_count,
+    Change, Command, LookUp, Plain, SYNTAX, Step, config, connection, group, info,
+    make_count_error, make_unknown_error, report,
 };
 use crate::refusal::Refusal;
 use std::alloc::Global;
@@ -26,43 +26,43 @@ pub(crate) fn command_in(alloc: Global, words: &[Vec<u8>]) -> Result<Command, Re
     let [word, arguments @ ..] = words else {
         return Err(SYNTAX);
     };
-    let Some(command) = command_named(word) else {
-        return Err(unknown(alloc, word, arguments));
+    let Some(command) = find_command(word) else {
+        return Err(make_unknown_error(alloc, word, arguments));
     };
     if !has_right_count(command, arguments.len()) {
-        return Err(wrong_count(alloc, word));
+        return Err(make_count_error(alloc, word));
     }
     check_subcommand(alloc, command, word, arguments)?;
     Ok(command)
 }
 
 /// The command of this name.
-fn command_named(word: &[u8]) -> Option<Command>
+fn find_command(word: &[u8]) -> Option<Command>
     ensures { IfSome (event_of word.now) (λ change. result ≡ Some (plain (change_plain change))) }
 {
-    if let Some(change) = change_named(word) {
+    if let Some(change) = find_change(word) {
         return Some(Command::Plain(Plain::Change(change)));
     }
-    if let Some(look_up) = look_up_named(word) {
+    if let Some(look_up) = find_look_up(word) {
         return Some(Command::Plain(Plain::LookUp(look_up)));
     }
-    if let Some(report) = report_named(word) {
+    if let Some(report) = find_report(word) {
         return Some(Command::Plain(Plain::Report(report)));
     }
-    if let Some(asked) = connection_named(word) {
+    if let Some(asked) = find_connection(word) {
         return Some(Command::Plain(Plain::Connection(asked)));
     }
     if is_word(word, "CONFIG") {
         return Some(Command::Plain(Plain::Configure));
     }
-    Some(Command::Transaction(step_named(word)?))
+    Some(Command::Transaction(find_step(word)?))
 }
 
 /// The command of this name that changes streams.
-fn change_named(word: &[u8]) -> Option<Change>
+fn find_change(word: &[u8]) -> Option<Change>
     ensures { IfSome (event_of word.now) (λ change. result ≡ Some change) }
 {
-    if let Some(change) = event_named(word) {
+    if let Some(change) = find_event(word) {
         return Some(change);
     }
     let names = [
@@ -83,7 +83,7 @@ fn change_named(word: &[u8]) -> Option<Change>
 }
 
 /// The command of this name that is an event of the model of a group.
-fn event_named(word: &[u8]) -> Option<Change>
+fn find_event(word: &[u8]) -> Option<Change>
     ensures { result ≡ event_of word.now }
 {
     if is_word(word, "XADD") {
@@ -102,7 +102,7 @@ fn event_named(word: &[u8]) -> Option<Change>
 }
 
 /// The command of this name that reads streams.
-fn look_up_named(word: &[u8]) -> Option<LookUp> {
+fn find_look_up(word: &[u8]) -> Option<LookUp> {
     let names = [
         ("XREAD", LookUp::Read),
         ("XPENDING", LookUp::Pending),
@@ -122,7 +122,7 @@ fn look_up_named(word: &[u8]) -> Option<LookUp> {
 }
 
 /// The command of this name that reports on the server.
-fn report_named(word: &[u8]) -> Option<Report> {
+fn find_report(word: &[u8]) -> Option<Report> {
     let names = [
         ("DBSIZE", Report::KeyCount),
         ("TIME", Report::Time),
@@ -138,7 +138,7 @@ fn report_named(word: &[u8]) -> Option<Report> {
 }
 
 /// The command of the connection of this name.
-fn connection_named(word: &[u8]) -> Option<Connection> {
+fn find_connection(word: &[u8]) -> Option<Connection> {
     let names = [
         ("PING", Connection::Ping),
         ("HELLO", Connection::Hello),
@@ -155,7 +155,7 @@ fn connection_named(word: &[u8]) -> Option<Connection> {
 }
 
 /// The command of a transaction of this name.
-fn step_named(word: &[u8]) -> Option<Step> {
+fn find_step(word: &[u8]) -> Option<Step> {
     let names = [
         ("MULTI", Step::Begin),
         ("EXEC", Step::Execute),
@@ -175,17 +175,17 @@ fn has_right_count(command: Command, count: usize) -> bool
     ensures { (change : Changing) → command ≡ plain (change_plain change) → result ≡ nat_le (least_of change) count }
 {
     match command {
-        Command::Plain(Plain::Change(change)) => change_takes(change, count),
-        Command::Plain(Plain::LookUp(look_up)) => look_up_takes(look_up, count),
-        Command::Plain(Plain::Report(report)) => report_takes(report, count),
-        Command::Plain(Plain::Connection(asked)) => connection_takes(asked, count),
+        Command::Plain(Plain::Change(change)) => may_follow_change(change, count),
+        Command::Plain(Plain::LookUp(look_up)) => may_follow_look_up(look_up, count),
+        Command::Plain(Plain::Report(report)) => may_follow_report(report, count),
+        Command::Plain(Plain::Connection(asked)) => may_follow_connection(asked, count),
         Command::Plain(Plain::Configure) => count >= 1,
-        Command::Transaction(step) => step_takes(step, count),
+        Command::Transaction(step) => may_follow_step(step, count),
     }
 }
 
 /// Whether it may have this many arguments.
-fn change_takes(change: Change, count: usize) -> bool
+fn may_follow_change(change: Change, count: usize) -> bool
     ensures { result ≡ nat_le (least_of change) count }
 {
     match change {
@@ -200,7 +200,7 @@ fn change_takes(change: Change, count: usize) -> bool
 }
 
 /// Whether it may have this many arguments.
-fn look_up_takes(look_up: LookUp, count: usize) -> bool {
+fn may_follow_look_up(look_up: LookUp, count: usize) -> bool {
     match look_up {
         LookUp::Info | LookUp::Exists => count >= 1,
         LookUp::Len | LookUp::Type => count == 1,
@@ -210,7 +210,7 @@ fn look_up_takes(look_up: LookUp, count: usize) -> bool {
 }
 
 /// Whether it may have this many arguments.
-fn report_takes(report: Report, count: usize) -> bool {
+fn may_follow_report(report: Report, count: usize) -> bool {
     match report {
         Report::KeyCount | Report::Time => count == 0,
         Report::Info => true,
@@ -219,7 +219,7 @@ fn report_takes(report: Report, count: usize) -> bool {
 }
 
 /// Whether it may have this many arguments.
-fn connection_takes(asked: Connection, count: usize) -> bool {
+fn may_follow_connection(asked: Connection, count: usize) -> bool {
     match asked {
         Connection::Ping | Connection::Hello => true,
         Connection::Unwatch => count == 0,
@@ -229,7 +229,7 @@ fn connection_takes(asked: Connection, count: usize) -> bool {
 }
 
 /// Whether it may have this many arguments; EXEC has its own error for too many.
-fn step_takes(step: Step, count: usize) -> bool {
+fn may_follow_step(step: Step, count: usize) -> bool {
     match step {
         Step::Begin | Step::Discard => count == 0,
         Step::Execute => true,

@@ -4,7 +4,10 @@ ghost use Rattle.server_commands.specs.Kinds.{IsArray};
 
 use super::answers::{array, bytes_answer, length, number, put};
 use super::words::is_word;
-use super::{SYNTAX, count, group_for, interval_end, interval_start, name_of, stream_for};
+use super::{
+    SYNTAX, find_consumer_name, parse_interval_end, parse_interval_start, require_count,
+    require_group, require_stream,
+};
 use crate::answer::Answer;
 use crate::refusal::Refusal;
 use itoa::Buffer;
@@ -33,24 +36,24 @@ pub(super) fn pending(
     let [key, name, words @ ..] = arguments else {
         return Err(SYNTAX);
     };
-    let wanted = wanted_in(words)?;
-    let stream = stream_for(alloc, streams, key, name)?;
-    let group = group_for(alloc, stream, key, name)?;
+    let wanted = parse_wanted(words)?;
+    let stream = require_stream(alloc, streams, key, name)?;
+    let group = require_group(alloc, stream, key, name)?;
     match wanted {
-        Some(wanted) => Ok(Answer::Array(rows(alloc, group, now, wanted)?)),
-        None => Ok(Answer::Array(summary(alloc, group)?)),
+        Some(wanted) => Ok(Answer::Array(list_pending_rows(alloc, group, now, wanted)?)),
+        None => Ok(Answer::Array(make_summary(alloc, group)?)),
     }
 }
 
 /// `[[IDLE ms] start end count [consumer]]`
-fn wanted_in(words: &[Vec<u8>]) -> Result<Option<Wanted<'_>>, Refusal> {
+fn parse_wanted(words: &[Vec<u8>]) -> Result<Option<Wanted<'_>>, Refusal> {
     if words.is_empty() {
         return Ok(None);
     }
     if words.len() < 3 || words.len() > 6 {
         return Err(SYNTAX);
     }
-    let (least_idle, rest) = least_idle_at(words)?;
+    let (least_idle, rest) = parse_least_idle(words)?;
     let [start, end, most, consumer @ ..] = rest else {
         return Err(SYNTAX);
     };
@@ -58,9 +61,9 @@ fn wanted_in(words: &[Vec<u8>]) -> Result<Option<Wanted<'_>>, Refusal> {
         [name, ..] => Some(name.as_slice()),
         [] => None,
     };
-    let most = count(most)?;
-    let start = interval_start(start)?;
-    let end = interval_end(end)?;
+    let most = require_count(most)?;
+    let start = parse_interval_start(start)?;
+    let end = parse_interval_end(end)?;
     Ok(Some(Wanted {
         start,
         end,
@@ -71,15 +74,15 @@ fn wanted_in(words: &[Vec<u8>]) -> Result<Option<Wanted<'_>>, Refusal> {
 }
 
 /// `[IDLE ms]`, 0 if it is missing, and the words after it.
-fn least_idle_at(words: &[Vec<u8>]) -> Result<(u64, &[Vec<u8>]), Refusal> {
+fn parse_least_idle(words: &[Vec<u8>]) -> Result<(u64, &[Vec<u8>]), Refusal> {
     match words {
-        [word, text, behind @ ..] if is_word(word, "IDLE") => Ok((count(text)?, behind)),
+        [word, text, behind @ ..] if is_word(word, "IDLE") => Ok((require_count(text)?, behind)),
         _ => Ok((0, words)),
     }
 }
 
 /// A row for each of them.
-fn rows(
+fn list_pending_rows(
     alloc: Global,
     group: &Group,
     now: u64,
@@ -107,25 +110,30 @@ fn rows(
         };
         if is_wanted && idle >= wanted.least_idle {
             left -= 1;
-            put(&mut rows, row(alloc, group, pending, idle)?)?;
+            put(&mut rows, make_pending_row(alloc, group, pending, idle)?)?;
         }
     }
     Ok(rows)
 }
 
 /// The row of a pending entry that has been idle for this long.
-fn row(alloc: Global, group: &Group, pending: Pending, idle: u64) -> Result<Answer, AllocError> {
+fn make_pending_row(
+    alloc: Global,
+    group: &Group,
+    pending: Pending,
+    idle: u64,
+) -> Result<Answer, AllocError> {
     let id = Answer::Id(pending.id);
-    let name = bytes_answer(alloc, name_of(group, pending.consumer))?;
+    let name = bytes_answer(alloc, find_consumer_name(group, pending.consumer))?;
     array(alloc, [id, name, number(idle), number(pending.deliveries)])
 }
 
 /// The number of pending entries, the first and the last one, and how many each consumer has.
-fn summary(alloc: Global, group: &Group) -> Result<Vec<Answer>, AllocError> {
+fn make_summary(alloc: Global, group: &Group) -> Result<Vec<Answer>, AllocError> {
     let pending = length(group.pending.len());
     let row = match (group.pending.first(), group.pending.last()) {
         (Some(first), Some(last)) => {
-            let counts = Answer::Array(counts(alloc, group)?);
+            let counts = Answer::Array(list_counts(alloc, group)?);
             [pending, Answer::Id(first.id), Answer::Id(last.id), counts]
         }
         _ => [pending, Answer::Nil, Answer::Nil, Answer::NilArray],
@@ -137,18 +145,18 @@ fn summary(alloc: Global, group: &Group) -> Result<Vec<Answer>, AllocError> {
 }
 
 /// How many pending entries each consumer has, if there are any.
-fn counts(alloc: Global, group: &Group) -> Result<Vec<Answer>, AllocError> {
+fn list_counts(alloc: Global, group: &Group) -> Result<Vec<Answer>, AllocError> {
     let mut counts = Vec::new(alloc);
     for consumer in &group.consumers {
         if consumer.pending != 0 {
-            put(&mut counts, count_of(alloc, consumer)?)?;
+            put(&mut counts, make_count_row(alloc, consumer)?)?;
         }
     }
     Ok(counts)
 }
 
 /// A consumer's name, and how many entries are pending for it.
-fn count_of(alloc: Global, consumer: &Consumer) -> Result<Answer, AllocError> {
+fn make_count_row(alloc: Global, consumer: &Consumer) -> Result<Answer, AllocError> {
     let mut buffer = Buffer::new();
     let digits = buffer.format::<u64>(consumer.pending).as_bytes();
     let name = bytes_answer(alloc, &consumer.name)?;

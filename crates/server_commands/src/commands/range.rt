@@ -5,7 +5,7 @@ ghost use Rattle.server_commands.specs.Kinds.{IsArray};
 use super::answers::{entry_answer, put};
 use super::places::stream_of;
 use super::words::is_word;
-use super::{SYNTAX, count, entries_up, interval_end, interval_start};
+use super::{SYNTAX, list_entries_up, parse_interval_end, parse_interval_start, require_count};
 use crate::answer::Answer;
 use crate::refusal::Refusal;
 use server_store::{EntryId, Stream};
@@ -28,9 +28,9 @@ pub(super) fn range(
     } else {
         (left, right)
     };
-    let start = interval_start(low)?;
-    let end = interval_end(high)?;
-    let most = most_in(options)?;
+    let start = parse_interval_start(low)?;
+    let end = parse_interval_end(high)?;
+    let most = parse_most(options)?;
     let Some(stream) = stream_of(streams, key) else {
         return Ok(Answer::Array(Vec::new(alloc)));
     };
@@ -38,21 +38,21 @@ pub(super) fn range(
         return Ok(Answer::NilArray);
     }
     if is_reverse {
-        Ok(Answer::Array(entries_down(alloc, stream, start, end, most)?))
+        Ok(Answer::Array(list_entries_down(alloc, stream, start, end, most)?))
     } else {
-        Ok(Answer::Array(entries_up(alloc, stream, start, end, most)?))
+        Ok(Answer::Array(list_entries_up(alloc, stream, start, end, most)?))
     }
 }
 
 /// `[COUNT count]`, no limit if it is missing; the last one counts.
-fn most_in(options: &[Vec<u8>]) -> Result<u64, Refusal> {
+fn parse_most(options: &[Vec<u8>]) -> Result<u64, Refusal> {
     let mut most = u64::MAX;
     let mut rest = options;
     for _ in 0..options.len() {
         match rest {
             [] => break,
             [word, text, behind @ ..] if is_word(word, "COUNT") => {
-                most = count(text)?;
+                most = require_count(text)?;
                 rest = behind;
             }
             _ => return Err(SYNTAX),
@@ -62,7 +62,7 @@ fn most_in(options: &[Vec<u8>]) -> Result<u64, Refusal> {
 }
 
 /// The last entries up to this id and from that one on, `most` at most, the last one first.
-fn entries_down(
+fn list_entries_down(
     alloc: Global,
     stream: &Stream,
     start: EntryId,

@@ -22,7 +22,7 @@ use super::draft::Draft;
 use super::id_words::id;
 use super::places::{group_of, place_of, place_of_group, stream_of};
 use super::words::{is_word, shown};
-use super::{SYNTAX, count, integer_in, refusal_of, room_of, settle};
+use super::{SYNTAX, make_refusal, parse_integer, require_count, reserve_room, settle};
 use crate::answer::Answer;
 use crate::refusal::Refusal;
 use own::{deliver_again, read_own};
@@ -69,31 +69,31 @@ pub(super) fn read(
 ) -> Result<Answer, Refusal>
     ensures { IfOk result IsRows }
 {
-    let options = options_in(arguments, false)?;
-    let starts = starts_of(alloc, streams, &options)?;
+    let options = parse_options(arguments, false)?;
+    let starts = parse_starts(alloc, streams, &options)?;
     let mut rows = Vec::new(alloc);
     for (key, start) in options.keys.iter().zip(starts) {
-        let entries = entries_behind(alloc, streams, key, start, options.most)?;
+        let entries = list_entries_behind(alloc, streams, key, start, options.most)?;
         put_stream(alloc, &mut rows, key, entries)?;
     }
-    Ok(rows_answer(rows))
+    Ok(reply_with_rows(rows))
 }
 
 /// The ids after which XREAD begins.
-fn starts_of(
+fn parse_starts(
     alloc: Global,
     streams: &[Stream],
     options: &ReadOptions<'_>,
 ) -> Result<Vec<EntryId>, Refusal> {
     let mut starts = Vec::new(alloc);
     for (key, text) in options.keys.iter().zip(options.ids) {
-        starts.push(start_of(stream_of(streams, key), text)?)?;
+        starts.push(parse_start(stream_of(streams, key), text)?)?;
     }
     Ok(starts)
 }
 
 /// The entries of the stream of this key after the id, and `None` if there is none.
-fn entries_behind(
+fn list_entries_behind(
     alloc: Global,
     streams: &[Stream],
     key: &[u8],
@@ -138,13 +138,13 @@ pub(super) fn read_group(
     match arguments {
         [first, group, consumer, second, key, text]
             if is_word(first, "GROUP") && is_word(second, "STREAMS") => {
-            let reader = usual_reader(group, consumer, now, u64::MAX);
+            let reader = make_usual_reader(group, consumer, now, u64::MAX);
             read_one(alloc, streams, key, text, reader)
         }
         [first, group, consumer, second, number, third, key, text]
             if is_word(first, "GROUP") && is_word(second, "COUNT") && is_word(third, "STREAMS") => {
-            let most = most_after(u64::MAX, second, number)?;
-            let reader = usual_reader(group, consumer, now, most);
+            let most = parse_most(u64::MAX, second, number)?;
+            let reader = make_usual_reader(group, consumer, now, most);
             read_one(alloc, streams, key, text, reader)
         }
         _ => read_by_options(alloc, streams, now, arguments),
@@ -152,7 +152,7 @@ pub(super) fn read_group(
 }
 
 /// The consumer of these names, which reads `most` entries, pending for it from then on.
-fn usual_reader<'a>(group: &'a [u8], consumer: &'a [u8], now: u64, most: u64) -> Reader<'a>
+fn make_usual_reader<'a>(group: &'a [u8], consumer: &'a [u8], now: u64, most: u64) -> Reader<'a>
     ensures group { result.group.now ≡ group.now }
     ensures consumer { result.consumer.now ≡ consumer.now }
     ensures others { (result.now ≡ now) × (result.most ≡ most) × (result.noack ≡ false) }
@@ -176,8 +176,8 @@ fn read_by_options(
     ensures rows { IfOk result IsRows }
     ensures err { OnErr result (streams.new ≡ streams.old) }
 {
-    let options = options_in(arguments, true)?;
-    let reader = reader_of(&options, now)?;
+    let options = parse_options(arguments, true)?;
+    let reader = make_reader(&options, now)?;
     if let ([key], [text]) = (options.keys, options.ids) {
         return read_one(alloc, streams, key, text, reader);
     }
@@ -196,22 +196,22 @@ fn read_all<'a>(
 {
     let mut drafts = Vec::new(alloc);
     let rows = read_for_group(alloc, streams, options, reader, &mut drafts)?;
-    let rooms = rooms_of(alloc, streams, &drafts)?;
+    let rooms = reserve_rooms(alloc, streams, &drafts)?;
     for (draft, room) in drafts.into_iter().zip(rooms) {
         settle(streams, draft, room);
     }
-    Ok(rows_answer(rows))
+    Ok(reply_with_rows(rows))
 }
 
 /// Reserves memory in each of the groups.
-fn rooms_of(
+fn reserve_rooms(
     alloc: Global,
     streams: &[Stream],
     drafts: &[Draft<'_>],
 ) -> Result<Vec<Option<Room>>, AllocError> {
     let mut rooms = Vec::with_capacity(alloc, drafts.len())?;
     for draft in drafts {
-        rooms.push(room_of(alloc, streams, draft)?)?;
+        rooms.push(reserve_room(alloc, streams, draft)?)?;
     }
     Ok(rooms)
 }
@@ -224,7 +224,7 @@ fn read_for_group<'a>(
     reader: Reader<'a>,
     drafts: &mut Vec<Draft<'a>>,
 ) -> Result<Vec<(Vec<u8>, Answer)>, Refusal> {
-    let starts = group_starts(alloc, streams, options, reader.group)?;
+    let starts = parse_group_starts(alloc, streams, options, reader.group)?;
     let mut rows = Vec::new(alloc);
     for (key, start) in options.keys.iter().zip(starts) {
         let entries = read_stream(alloc, streams, key, reader, start, drafts)?;
@@ -234,7 +234,7 @@ fn read_for_group<'a>(
 }
 
 /// The consumer that reads.
-fn reader_of<'a>(options: &ReadOptions<'a>, now: u64) -> Result<Reader<'a>, Refusal> {
+fn make_reader<'a>(options: &ReadOptions<'a>, now: u64) -> Result<Reader<'a>, Refusal> {
     match options.names {
         Some((group, consumer)) => Ok(Reader {
             group,
@@ -248,7 +248,7 @@ fn reader_of<'a>(options: &ReadOptions<'a>, now: u64) -> Result<Reader<'a>, Refu
 }
 
 /// Where XREADGROUP begins in each stream.
-fn group_starts(
+fn parse_group_starts(
     alloc: Global,
     streams: &[Stream],
     options: &ReadOptions<'_>,
@@ -256,7 +256,7 @@ fn group_starts(
 ) -> Result<Vec<Start>, Refusal> {
     let mut starts = Vec::new(alloc);
     for (key, text) in options.keys.iter().zip(options.ids) {
-        starts.push(group_start_of(alloc, streams, key, text, group)?)?;
+        starts.push(parse_group_start(alloc, streams, key, text, group)?)?;
     }
     Ok(starts)
 }
@@ -276,7 +276,7 @@ fn read_stream<'a>(
     let Some(group) = group_of(stream, reader.group) else {
         return Err(SYNTAX);
     };
-    let place = place_of_draft(alloc, group, key, reader, drafts)?;
+    let place = find_draft(alloc, group, key, reader, drafts)?;
     match drafts.get_mut(place) {
         Some(draft) => Ok(read_as(alloc, stream, group, &mut draft.part, reader, start)?),
         None => Ok(None),
@@ -284,7 +284,7 @@ fn read_stream<'a>(
 }
 
 /// The index of the draft of the group; a key may come more than once.
-fn place_of_draft<'a>(
+fn find_draft<'a>(
     alloc: Global,
     group: &Group,
     key: &'a [u8],
@@ -304,7 +304,7 @@ fn place_of_draft<'a>(
 }
 
 /// The rows, or nil if there is none.
-fn rows_answer(rows: Vec<(Vec<u8>, Answer)>) -> Answer
+fn reply_with_rows(rows: Vec<(Vec<u8>, Answer)>) -> Answer
     ensures { IsRows result }
 {
     if rows.is_empty() {
@@ -324,7 +324,7 @@ const NOACK_ALONE: &str = "ERR The NOACK option is only supported by XREADGROUP.
     called XREAD instead.";
 
 /// The options, and the words after `STREAMS`.
-fn options_in(arguments: &[Vec<u8>], is_group: bool) -> Result<ReadOptions<'_>, Refusal> {
+fn parse_options(arguments: &[Vec<u8>], is_group: bool) -> Result<ReadOptions<'_>, Refusal> {
     let mut options = ReadOptions {
         most: u64::MAX,
         names: None,
@@ -342,14 +342,14 @@ fn options_in(arguments: &[Vec<u8>], is_group: bool) -> Result<ReadOptions<'_>, 
                 (options.keys, options.ids) = streams.split_at(streams.len() / 2);
                 return Ok(options);
             }
-            _ => rest = option_at(&mut options, rest, is_group)?,
+            _ => rest = parse_option(&mut options, rest, is_group)?,
         }
     }
     Err(SYNTAX)
 }
 
 /// Parses one option, and returns the words after it.
-fn option_at<'a>(
+fn parse_option<'a>(
     options: &mut ReadOptions<'a>,
     words: &'a [Vec<u8>],
     is_group: bool,
@@ -370,7 +370,7 @@ fn option_at<'a>(
             Ok(behind)
         }
         [word, text, behind @ ..] => {
-            options.most = most_after(options.most, word, text)?;
+            options.most = parse_most(options.most, word, text)?;
             Ok(behind)
         }
         _ => Err(SYNTAX),
@@ -378,7 +378,7 @@ fn option_at<'a>(
 }
 
 /// Parses `BLOCK ms` or `COUNT n`, and returns how many entries are read at most.
-fn most_after(most: u64, word: &[u8], text: &[u8]) -> Result<u64, Refusal>
+fn parse_most(most: u64, word: &[u8], text: &[u8]) -> Result<u64, Refusal>
     ensures { IfOk result (λ n. 0 < most → 0 < n) }
 {
     if is_word(word, "BLOCK") {
@@ -388,13 +388,13 @@ fn most_after(most: u64, word: &[u8], text: &[u8]) -> Result<u64, Refusal>
     if !is_word(word, "COUNT") {
         return Err(SYNTAX);
     }
-    let most = count(text)?;
+    let most = require_count(text)?;
     Ok(if most == 0 { u64::MAX } else { most })
 }
 
 /// Whether the text is a timeout.
 fn check_timeout(text: &[u8]) -> Result<(), Refusal> {
-    match integer_in(text) {
+    match parse_integer(text) {
         Some(n) if n < 0 => Err(Refusal::Fixed("ERR timeout is negative")),
         Some(_) => Ok(()),
         None => Err(Refusal::Fixed("ERR timeout is not an integer or out of range")),
@@ -409,7 +409,7 @@ const NO_DOLLAR: &str = "ERR The $ ID is meaningless in the context of XREADGROU
     ID to get new messages. The $ ID would just return an empty result set.";
 
 /// The id after which XREAD begins; `$` is the last one.
-fn start_of(stream: Option<&Stream>, text: &[u8]) -> Result<EntryId, Refusal> {
+fn parse_start(stream: Option<&Stream>, text: &[u8]) -> Result<EntryId, Refusal> {
     if text == b"$".as_slice() {
         return match stream {
             Some(stream) => Ok(stream.last_id),
@@ -423,7 +423,7 @@ fn start_of(stream: Option<&Stream>, text: &[u8]) -> Result<EntryId, Refusal> {
 }
 
 /// Where XREADGROUP begins; the largest id means `>` too.
-fn group_start_of(
+fn parse_group_start(
     alloc: Global,
     streams: &[Stream],
     key: &[u8],
@@ -439,7 +439,7 @@ fn group_start_of(
         None => false,
     };
     if !has_group {
-        return Err(refusal_of(
+        return Err(make_refusal(
             alloc,
             &[
                 b"NOGROUP No such key '",
@@ -474,7 +474,7 @@ fn read_behind(
     ensures { IfOk result (λ found. AreInOrder stream.now.entries.items
         → AreFound most (entries_behind behind stream.now.entries.items) found) }
 {
-    let start = start_behind(stream, behind);
+    let start = find_start_behind(stream, behind);
     if start == stream.entries.len() {
         return Ok(None);
     }
@@ -570,14 +570,14 @@ fn reread(
         left -= 1;
         put(
             &mut answers,
-            given_again(alloc, stream, part, pending, reader.now)?,
+            reread_entry(alloc, stream, part, pending, reader.now)?,
         )?;
     }
     Ok(answers)
 }
 
 /// The entry, redelivered, or its id and nil if it was deleted.
-fn given_again(
+fn reread_entry(
     alloc: Global,
     stream: &Stream,
     part: &mut Group,
@@ -606,7 +606,7 @@ fn deliver_new(
     ensures { OnOk result (HandsOut reader.entry.consumer.now reader.entry.now reader.entry.most
         reader.entry.noack stream.now.entries.items group.old group.new) }
 {
-    let start = start_behind(stream, group.last_id);
+    let start = find_start_behind(stream, group.last_id);
     let number = group.see(alloc, reader.consumer, reader.now)?;
     let mut left = reader.most;
     for entry in stream.entries.range(start..) {
@@ -620,7 +620,7 @@ fn deliver_new(
 }
 
 /// The index of the first entry after this id.
-fn start_behind(stream: &Stream, id: EntryId) -> usize
+fn find_start_behind(stream: &Stream, id: EntryId) -> usize
     ensures bound { result ≤ length stream.now.entries.items }
     ensures behind { AreInOrder stream.now.entries.items
         → drop result stream.now.entries.items ≡ entries_behind id stream.now.entries.items }
@@ -709,7 +709,7 @@ fn read_one(
         answer streams.old streams.new) }
     ensures err { OnErr result (streams.new ≡ streams.old) }
 {
-    let start = group_start_of(alloc, streams, key, text, reader.group)?;
+    let start = parse_group_start(alloc, streams, key, text, reader.group)?;
     let Ok(index) = place_of(streams, key) else {
         return Err(SYNTAX);
     };
@@ -749,12 +749,12 @@ fn read_of(
         return Ok(None);
     };
     let room = group.room_for(alloc, reader.consumer, part.pending.len())?;
-    let answer = row_answer(alloc, key, entries)?;
+    let answer = reply_with_row(alloc, key, entries)?;
     Ok(Some(Outcome { answer, part, room }))
 }
 
 /// The entries of the stream of this key as a reply.
-fn row_answer(alloc: Global, key: &[u8], entries: Vec<Answer>) -> Result<Answer, AllocError>
+fn reply_with_row(alloc: Global, key: &[u8], entries: Vec<Answer>) -> Result<Answer, AllocError>
     ensures rows { IfOk result IsRows }
     ensures sent { IfOk result (λ answer. sent answer
         ≡ rows_of (more_rows key.now (array_of (item_list (map sent entries.items))) no_rows)) }

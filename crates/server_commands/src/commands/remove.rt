@@ -9,7 +9,7 @@ use super::id_words::{id, ids};
 use super::places::{place_of, place_of_group};
 use super::retention::retention_in;
 use super::words::is_word;
-use super::{SYNTAX, integer};
+use super::{SYNTAX, require_integer};
 use crate::answer::Answer;
 use crate::refusal::Refusal;
 use server_store::{EntryId, Group, Stream};
@@ -140,7 +140,7 @@ pub(super) fn set_id(streams: &mut [Stream], arguments: &[Vec<u8>]) -> Result<An
     let [key, last, options @ ..] = arguments else {
         return Err(SYNTAX);
     };
-    let state = state_in(last, options)?;
+    let state = parse_state(last, options)?;
     let Ok(index) = place_of(streams, key) else {
         return Err(Refusal::Fixed("ERR no such key"));
     };
@@ -171,7 +171,7 @@ pub(super) fn set_id(streams: &mut [Stream], arguments: &[Vec<u8>]) -> Result<An
 }
 
 /// The id and the options of XSETID.
-fn state_in(last: &[u8], options: &[Vec<u8>]) -> Result<NewState, Refusal> {
+fn parse_state(last: &[u8], options: &[Vec<u8>]) -> Result<NewState, Refusal> {
     let last_id = id(last)?;
     let mut state = NewState {
         last_id,
@@ -183,20 +183,20 @@ fn state_in(last: &[u8], options: &[Vec<u8>]) -> Result<NewState, Refusal> {
         if rest.is_empty() {
             break;
         }
-        rest = option_at(&mut state, rest)?;
+        rest = parse_option(&mut state, rest)?;
     }
     Ok(state)
 }
 
 /// Parses one option, and returns the words after it.
-fn option_at<'w>(state: &mut NewState, words: &'w [Vec<u8>]) -> Result<&'w [Vec<u8>], Refusal> {
+fn parse_option<'w>(state: &mut NewState, words: &'w [Vec<u8>]) -> Result<&'w [Vec<u8>], Refusal> {
     let [word, text, behind @ ..] = words else {
         return Err(SYNTAX);
     };
     if is_word(word, "ENTRIESADDED") {
-        state.entries_added = Some(added_in(text)?);
+        state.entries_added = Some(parse_added(text)?);
     } else if is_word(word, "MAXDELETEDID") {
-        state.max_deleted_id = deleted_in(state.last_id, text)?;
+        state.max_deleted_id = parse_deleted(state.last_id, text)?;
     } else {
         return Err(SYNTAX);
     }
@@ -204,8 +204,8 @@ fn option_at<'w>(state: &mut NewState, words: &'w [Vec<u8>]) -> Result<&'w [Vec<
 }
 
 /// How many entries were added.
-fn added_in(text: &[u8]) -> Result<i64, Refusal> {
-    let added = integer(text)?;
+fn parse_added(text: &[u8]) -> Result<i64, Refusal> {
+    let added = require_integer(text)?;
     if added < 0 {
         return Err(Refusal::Fixed("ERR entries_added must be positive"));
     }
@@ -213,7 +213,7 @@ fn added_in(text: &[u8]) -> Result<i64, Refusal> {
 }
 
 /// The largest deleted id, which is not above the last one; 0-0 for none.
-fn deleted_in(last_id: EntryId, text: &[u8]) -> Result<Option<EntryId>, Refusal> {
+fn parse_deleted(last_id: EntryId, text: &[u8]) -> Result<Option<EntryId>, Refusal> {
     let deleted = id(text)?;
     if last_id < deleted {
         return Err(Refusal::Fixed(

@@ -4,7 +4,7 @@ ghost use Rattle.server_commands.specs.Kinds.{IsArray, IsBytes};
 
 use super::answers::put;
 use super::words::is_word;
-use super::{SYNTAX, unknown_subcommand};
+use super::{SYNTAX, make_subcommand_error};
 use crate::answer::Answer;
 use crate::refusal::Refusal;
 use itoa::Buffer;
@@ -29,7 +29,7 @@ pub(super) fn check(alloc: Global, word: &[u8], arguments: &[Vec<u8>]) -> Result
     if is_word(subcommand, "DOCS") {
         return Ok(());
     }
-    Err(unknown_subcommand(alloc, word, subcommand))
+    Err(make_subcommand_error(alloc, word, subcommand))
 }
 
 /// `TIME`: whole seconds, and the microseconds beyond them.
@@ -37,13 +37,13 @@ pub(super) fn time(alloc: Global, now: u64) -> Result<Answer, AllocError>
     ensures { IfOk result IsArray }
 {
     let mut parts = Vec::new(alloc);
-    put(&mut parts, digits(alloc, now / 1000)?)?;
-    put(&mut parts, digits(alloc, now % 1000 * 1000)?)?;
+    put(&mut parts, make_digits(alloc, now / 1000)?)?;
+    put(&mut parts, make_digits(alloc, now % 1000 * 1000)?)?;
     Ok(Answer::Array(parts))
 }
 
 /// The digits of a number as bytes.
-fn digits(alloc: Global, n: u64) -> Result<Answer, AllocError> {
+fn make_digits(alloc: Global, n: u64) -> Result<Answer, AllocError> {
     let text = Vec::from_slice(alloc, Buffer::new().format::<u64>(n).as_bytes())?;
     Ok(Answer::Bytes(text))
 }

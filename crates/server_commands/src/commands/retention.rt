@@ -10,7 +10,7 @@ ghost use Rattle.server_store.specs.declared.entry_id.EntryId.{EntryId};
 use super::id_words::id;
 use super::new_ids::{NewId, new_id};
 use super::words::is_word;
-use super::{INVALID_ID, SYNTAX, integer};
+use super::{INVALID_ID, SYNTAX, require_integer};
 use crate::refusal::Refusal;
 use server_store::{Bound, Trim};
 
@@ -50,7 +50,7 @@ pub(super) fn retention_in(
     ensures automatic { (others : List (List ℕ)) → is_add ≡ true
         → texts_of words.now ≡ codes "*" ∷ others → result ≡ Ok (id_alone Automatic) }
 {
-    if let Some(id) = id_in_front(words, is_add) {
+    if let Some(id) = parse_front_id(words, is_add) {
         return Ok(Retention {
             makes_stream: true,
             trim: None,
@@ -66,7 +66,7 @@ pub(super) fn retention_in(
         id: None,
     };
     let rest = read_options(&mut draft, words, is_add)?;
-    let trim = trim_of(&draft, is_add, node_entries)?;
+    let trim = make_trim(&draft, is_add, node_entries)?;
     Ok(Retention {
         makes_stream: draft.makes_stream,
         trim,
@@ -76,7 +76,7 @@ pub(super) fn retention_in(
 }
 
 /// The id of XADD, if no option is before it.
-fn id_in_front(words: &[Vec<u8>], is_add: bool) -> Option<NewId>
+fn parse_front_id(words: &[Vec<u8>], is_add: bool) -> Option<NewId>
     ensures len { IfSome result (λ _. 1 ≤ length words.now) }
     ensures given { (id : EntryId) (others : List (List ℕ)) → is_add ≡ true → Fits id
         → texts_of words.now ≡ id_text id ∷ others → result ≡ Some (Given id) }
@@ -100,13 +100,13 @@ fn read_options<'a>(
         if draft.id.is_some() || rest.is_empty() {
             break;
         }
-        rest = option_at(draft, rest, is_add)?;
+        rest = parse_option(draft, rest, is_add)?;
     }
     Ok(rest)
 }
 
 /// Parses one option, and returns the words after it.
-fn option_at<'a>(
+fn parse_option<'a>(
     draft: &mut Draft,
     words: &'a [Vec<u8>],
     is_add: bool,
@@ -116,10 +116,10 @@ fn option_at<'a>(
     };
     match behind {
         [_, ..] if is_word(word, "maxlen") || is_word(word, "minid") => {
-            bound_at(draft, word, behind)
+            parse_bound(draft, word, behind)
         }
         [text, after @ ..] if is_word(word, "limit") => {
-            draft.limit = Some(limit_in(text)?);
+            draft.limit = Some(parse_limit(text)?);
             Ok(after)
         }
         _ if is_add => {
@@ -131,7 +131,7 @@ fn option_at<'a>(
 }
 
 /// Parses the bound of this name, and returns the words after it.
-fn bound_at<'a>(
+fn parse_bound<'a>(
     draft: &mut Draft,
     word: &[u8],
     words: &'a [Vec<u8>],
@@ -139,15 +139,15 @@ fn bound_at<'a>(
     if draft.bound.is_some() {
         return Err(Refusal::Fixed(TWO_BOUNDS));
     }
-    let (mode, threshold, after) = threshold_at(words)?;
+    let (mode, threshold, after) = parse_threshold(words)?;
     draft.is_approximate = mode;
-    draft.bound = Some(bound_of(word, threshold)?);
+    draft.bound = Some(make_bound(word, threshold)?);
     Ok(after)
 }
 
 /// The number of LIMIT.
-fn limit_in(text: &[u8]) -> Result<u64, Refusal> {
-    match u64::try_from(integer(text)?) {
+fn parse_limit(text: &[u8]) -> Result<u64, Refusal> {
+    match u64::try_from(require_integer(text)?) {
         Ok(limit) => Ok(limit),
         Err(_) => Err(Refusal::Fixed("ERR The LIMIT argument must be >= 0.")),
     }
@@ -172,7 +172,7 @@ const LIMIT_ALONE: &str = "ERR syntax error, LIMIT cannot be used without specif
 const LIMIT_EXACT: &str = "ERR syntax error, LIMIT cannot be used without the special ~ option";
 
 /// How the stream is trimmed, or why the options exclude each other.
-fn trim_of(draft: &Draft, is_add: bool, node_entries: u64) -> Result<Option<Trim>, Refusal>
+fn make_trim(draft: &Draft, is_add: bool, node_entries: u64) -> Result<Option<Trim>, Refusal>
     ensures limit { IfOk result (λ trim. IfSome trim (λ t. t.limit
         ≡ limit_of draft.now.limit draft.now.is_approximate node_entries)) }
 {
@@ -189,7 +189,7 @@ fn trim_of(draft: &Draft, is_add: bool, node_entries: u64) -> Result<Option<Trim
         return Err(Refusal::Fixed(LIMIT_EXACT));
     }
     let usual = if draft.is_approximate {
-        usual_limit(node_entries)
+        compute_usual_limit(node_entries)
     } else {
         0
     };
@@ -202,7 +202,7 @@ fn trim_of(draft: &Draft, is_add: bool, node_entries: u64) -> Result<Option<Trim
 
 /// The limit of `~` without LIMIT, if a node has at most `node_entries` entries: a hundred nodes, at most
 /// 1,000,000 entries; 10,000 entries if a node has any number.
-fn usual_limit(node_entries: u64) -> u64
+fn compute_usual_limit(node_entries: u64) -> u64
     ensures { result ≡ usual_limit node_entries }
 {
     match node_entries {
@@ -213,7 +213,7 @@ fn usual_limit(node_entries: u64) -> u64
 }
 
 /// `[= | ~] threshold`: whether it is `~`, the threshold, and the arguments after it.
-fn threshold_at(words: &[Vec<u8>]) -> Result<(bool, &[u8], &[Vec<u8>]), Refusal> {
+fn parse_threshold(words: &[Vec<u8>]) -> Result<(bool, &[u8], &[Vec<u8>]), Refusal> {
     match words {
         [] => Err(SYNTAX),
         [text] => Ok((false, text, &[])),
@@ -230,11 +230,11 @@ fn threshold_at(words: &[Vec<u8>]) -> Result<(bool, &[u8], &[Vec<u8>]), Refusal>
 }
 
 /// The bound of this name.
-fn bound_of(word: &[u8], threshold: &[u8]) -> Result<Bound, Refusal> {
+fn make_bound(word: &[u8], threshold: &[u8]) -> Result<Bound, Refusal> {
     if is_word(word, "minid") {
         return Ok(Bound::Below(id(threshold)?));
     }
-    match u64::try_from(integer(threshold)?) {
+    match u64::try_from(require_integer(threshold)?) {
         Ok(most) => Ok(Bound::Length(most)),
         Err(_) => Err(Refusal::Fixed("ERR The MAXLEN argument must be >= 0.")),
     }

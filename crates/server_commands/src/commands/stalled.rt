@@ -13,7 +13,7 @@ use super::answers::{array, claimed_answer, put};
 use super::places::{place_of, place_of_group};
 use super::remove::acknowledge_all;
 use super::words::is_word;
-use super::{SYNTAX, integer_in, interval_start, no_group};
+use super::{SYNTAX, make_key_or_group_error, parse_integer, parse_interval_start};
 use crate::answer::Answer;
 use crate::refusal::Refusal;
 use server_store::{EntryId, Group, Pending, Room, Stream};
@@ -54,24 +54,24 @@ pub(super) fn claim_stalled(
     let [key, name, consumer, least_idle, start, words @ ..] = arguments else {
         return Err(SYNTAX);
     };
-    let claim = claim_in(consumer, now, least_idle, start, words)?;
+    let claim = parse_claim(consumer, now, least_idle, start, words)?;
     let Ok(index) = place_of(streams, key) else {
-        return Err(no_group(alloc, key, name));
+        return Err(make_key_or_group_error(alloc, key, name));
     };
     let Ok(place) = place_of_group(&streams[index], name) else {
-        return Err(no_group(alloc, key, name));
+        return Err(make_key_or_group_error(alloc, key, name));
     };
     let stream = &streams[index];
     let group = &stream.groups[place];
-    let stalled = stalled_in(alloc, stream, group, &claim)?;
+    let stalled = find_stalled(alloc, stream, group, &claim)?;
     let room = group.room_for(alloc, consumer, 0)?;
-    let answer = answer_of(alloc, stream, &stalled, claim.only_ids)?;
+    let answer = make_answer(alloc, stream, &stalled, claim.only_ids)?;
     settle(&mut streams[index].groups[place], &claim, &stalled, room);
     Ok(answer)
 }
 
 /// The start of the next claim, the entries that the consumer takes over, and the deleted ids.
-fn answer_of(
+fn make_answer(
     alloc: Global,
     stream: &Stream,
     stalled: &Stalled,
@@ -81,14 +81,14 @@ fn answer_of(
         ≡ sent_claim stalled.now.next (map (sent_claimed only_ids)
         (entries_with (ids_of stalled.now.claimed.items) stream.now.entries.items)) stalled.now.gone.items) }
 {
-    let claimed = claimed_answers(alloc, stream, &stalled.claimed, only_ids)?;
-    let gone = id_answers(alloc, &stalled.gone)?;
+    let claimed = make_claimed_answers(alloc, stream, &stalled.claimed, only_ids)?;
+    let gone = make_id_answers(alloc, &stalled.gone)?;
     let next = Answer::Id(stalled.next);
     array(alloc, [next, Answer::Array(claimed), Answer::Array(gone)])
 }
 
 /// The entries of what is claimed, or their ids.
-fn claimed_answers(
+fn make_claimed_answers(
     alloc: Global,
     stream: &Stream,
     claimed: &[Pending],
@@ -107,7 +107,7 @@ fn claimed_answers(
 }
 
 /// Ids as replies.
-fn id_answers(alloc: Global, ids: &[EntryId]) -> Result<Vec<Answer>, AllocError>
+fn make_id_answers(alloc: Global, ids: &[EntryId]) -> Result<Vec<Answer>, AllocError>
     ensures { IfOk result (λ answers. map sent answers.items ≡ map sent_id ids.now) }
 {
     let mut answers = Vec::new(alloc);
@@ -155,12 +155,12 @@ fn give_all(group: &mut Group, claim: &Claim<'_>, number: u64, claimed: &[Pendin
     } }
 {
     for pending in claimed {
-        let _given = group.give(taken_over(*pending, number, claim));
+        let _given = group.give(take_over_one(*pending, number, claim));
     }
 }
 
 /// What is pending, given to the consumer of this number.
-fn taken_over(pending: Pending, number: u64, claim: &Claim<'_>) -> Pending
+fn take_over_one(pending: Pending, number: u64, claim: &Claim<'_>) -> Pending
     ensures { result ≡ taken_over number claim.entry.now.now claim.entry.now.only_ids pending }
 {
     let more = if claim.only_ids { 0 } else { 1 };
@@ -173,7 +173,7 @@ fn taken_over(pending: Pending, number: u64, claim: &Claim<'_>) -> Pending
 }
 
 /// The arguments after the names of the key and the group.
-fn claim_in<'a>(
+fn parse_claim<'a>(
     consumer: &'a [u8],
     now: u64,
     least_idle: &[u8],
@@ -183,14 +183,14 @@ fn claim_in<'a>(
     ensures now { IfOk result (λ claim. claim.now ≡ now) }
     ensures plain { IfOk result (λ claim. length words.now ≡ 0 → claim.only_ids ≡ false) }
 {
-    let Some(least_idle) = integer_in(least_idle) else {
+    let Some(least_idle) = parse_integer(least_idle) else {
         return Err(Refusal::Fixed("ERR Invalid min-idle-time argument for XAUTOCLAIM"));
     };
     let mut claim = Claim {
         consumer,
         now,
         least_idle: u64::try_from(least_idle).unwrap_or(0),
-        start: interval_start(start)?,
+        start: parse_interval_start(start)?,
         most: 100,
         only_ids: false,
     };
@@ -199,18 +199,18 @@ fn claim_in<'a>(
         if rest.is_empty() {
             break;
         }
-        rest = option_at(&mut claim, rest)?;
+        rest = parse_option(&mut claim, rest)?;
     }
     Ok(claim)
 }
 
 /// Parses one option, and returns the words after it.
-fn option_at<'w>(claim: &mut Claim<'_>, words: &'w [Vec<u8>]) -> Result<&'w [Vec<u8>], Refusal>
+fn parse_option<'w>(claim: &mut Claim<'_>, words: &'w [Vec<u8>]) -> Result<&'w [Vec<u8>], Refusal>
     ensures { claim.new.now ≡ claim.old.now }
 {
     match words {
         [word, text, behind @ ..] if is_word(word, "COUNT") => {
-            claim.most = most_in(text)?;
+            claim.most = parse_most(text)?;
             Ok(behind)
         }
         [word, behind @ ..] if is_word(word, "JUSTID") => {
@@ -222,15 +222,15 @@ fn option_at<'w>(claim: &mut Claim<'_>, words: &'w [Vec<u8>]) -> Result<&'w [Vec
 }
 
 /// How many entries are claimed at most.
-fn most_in(text: &[u8]) -> Result<u64, Refusal> {
-    match u64::try_from(integer_in(text).unwrap_or(0)) {
+fn parse_most(text: &[u8]) -> Result<u64, Refusal> {
+    match u64::try_from(parse_integer(text).unwrap_or(0)) {
         Ok(n) if n > 0 && n <= 576_460_752_303_423_487 => Ok(n),
         _ => Err(Refusal::Fixed("ERR COUNT must be > 0")),
     }
 }
 
 /// What the claim finds; it scans ten times as many entries as it may take.
-fn stalled_in(
+fn find_stalled(
     alloc: Global,
     stream: &Stream,
     group: &Group,

@@ -20,19 +20,19 @@ pub(super) fn is_word(argument: &[u8], word: &str) -> bool
 pub(super) fn shown(word: &[u8], most: usize) -> &[u8]
     ensures { result.now ≡ take most (text_before_nul word.now) }
 {
-    front(before_nul(word), most)
+    take_front(before_nul(word), most)
 }
 
 /// The bytes before the first NUL.
 pub(super) fn before_nul(word: &[u8]) -> &[u8]
     ensures { result.now ≡ text_before_nul word.now }
 {
-    let (text, _) = word.split_at(text_len(word));
+    let (text, _) = word.split_at(find_text_len(word));
     text
 }
 
 /// The first bytes, at most `most`.
-fn front(text: &[u8], most: usize) -> &[u8]
+fn take_front(text: &[u8], most: usize) -> &[u8]
     ensures { result.now ≡ take most text.now }
 {
     let (front, _) = text.split_at(most.min(text.len()));
@@ -40,7 +40,7 @@ fn front(text: &[u8], most: usize) -> &[u8]
 }
 
 /// How many bytes are before the first NUL.
-fn text_len(word: &[u8]) -> usize
+fn find_text_len(word: &[u8]) -> usize
     ensures len { result ≡ prefix_len is_not_nul word.now }
     ensures within { result ≤ length_of word.now }
 {

@@ -14,8 +14,8 @@ returns-in_err-place c =
 
 pub loop-rest-preserved : goal.loop-rest-preserved
 loop-rest-preserved c = led_on (map (λ w. w.items) c.loop-rest.words.items) (split_words c.args.line.now)
-    c.loop-rest.place c.loop-rest.word.items c.loop-rest.rest.now (map (λ w. w.items) c.taken.new.words.items)
-    c.in_ok-place.place c.taken.new.word.items c.in-len1-up.len_at_least c.in_ok-place.ensures.ok c.loop-rest.invariant
+    c.loop-rest.place c.loop-rest.word.items c.loop-rest.rest.now (map (λ w. w.items) c.take_byte.new.words.items)
+    c.in_ok-place.place c.take_byte.new.word.items c.in-len1-up.len_at_least c.in_ok-place.ensures.ok c.loop-rest.invariant
 
 pub returns-in_err-end_line : goal.returns-in_err-end_line
 returns-in_err-end_line c =

@@ -2,10 +2,10 @@
 ghost use Rattle.std.specs.Prelude.{IfOk};
 ghost use Rattle.server_commands.specs.Kinds.{IsInfo};
 
-use super::{head_rows, lag, number_or_nil, put_rows};
+use super::{compute_lag, make_head_rows, make_number_or_nil, put_rows};
 use crate::answer::Answer;
 use crate::commands::answers::{array, bytes_answer, length, number, put};
-use crate::commands::{entries_up, name_of};
+use crate::commands::{find_consumer_name, list_entries_up};
 use server_store::{Consumer, EntryId, Group, Pending, Stream};
 use std::alloc::{AllocError, Global};
 
@@ -18,9 +18,9 @@ pub(super) fn stream_in_full(
     ensures { IfOk result IsInfo }
 {
     let most = if most == 0 { u64::MAX } else { most };
-    let mut rows = head_rows(alloc, stream)?;
-    let entries = entries_up(alloc, stream, EntryId::ZERO, EntryId::LAST, most)?;
-    let groups = groups_in_full(alloc, stream, most)?;
+    let mut rows = make_head_rows(alloc, stream)?;
+    let entries = list_entries_up(alloc, stream, EntryId::ZERO, EntryId::LAST, most)?;
+    let groups = list_groups_in_full(alloc, stream, most)?;
     let rest = vec![in alloc;
         ("entries", Answer::Array(entries)),
         ("groups", Answer::Array(groups)),
@@ -30,29 +30,36 @@ pub(super) fn stream_in_full(
 }
 
 /// The groups of the stream.
-fn groups_in_full(alloc: Global, stream: &Stream, most: u64) -> Result<Vec<Answer>, AllocError> {
+fn list_groups_in_full(
+    alloc: Global,
+    stream: &Stream,
+    most: u64,
+) -> Result<Vec<Answer>, AllocError> {
     let mut groups = Vec::new(alloc);
     for group in &stream.groups {
-        put(&mut groups, group_in_full(alloc, stream, group, most)?)?;
+        put(
+            &mut groups,
+            describe_group_in_full(alloc, stream, group, most)?,
+        )?;
     }
     Ok(groups)
 }
 
 /// A group with what is pending, for all and for each of its consumers.
-fn group_in_full(
+fn describe_group_in_full(
     alloc: Global,
     stream: &Stream,
     group: &Group,
     most: u64,
 ) -> Result<Answer, AllocError> {
     let name = bytes_answer(alloc, &group.name)?;
-    let pending = pending_rows(alloc, group, None, most)?;
-    let consumers = consumers_in_full(alloc, group, most)?;
+    let pending = list_pending_rows(alloc, group, None, most)?;
+    let consumers = list_consumers_in_full(alloc, group, most)?;
     let told = vec![in alloc;
         ("name", name),
         ("last-delivered-id", Answer::Id(group.last_id)),
-        ("entries-read", number_or_nil(group.entries_read)),
-        ("lag", number_or_nil(lag(stream, group))),
+        ("entries-read", make_number_or_nil(group.entries_read)),
+        ("lag", make_number_or_nil(compute_lag(stream, group))),
         ("pel-count", length(group.pending.len())),
         ("pending", Answer::Array(pending)),
         ("consumers", Answer::Array(consumers)),
@@ -63,26 +70,30 @@ fn group_in_full(
 }
 
 /// The consumers of the group.
-fn consumers_in_full(alloc: Global, group: &Group, most: u64) -> Result<Vec<Answer>, AllocError> {
+fn list_consumers_in_full(
+    alloc: Global,
+    group: &Group,
+    most: u64,
+) -> Result<Vec<Answer>, AllocError> {
     let mut consumers = Vec::new(alloc);
     for consumer in &group.consumers {
         put(
             &mut consumers,
-            consumer_in_full(alloc, group, consumer, most)?,
+            describe_consumer_in_full(alloc, group, consumer, most)?,
         )?;
     }
     Ok(consumers)
 }
 
 /// A consumer with what is pending for it.
-fn consumer_in_full(
+fn describe_consumer_in_full(
     alloc: Global,
     group: &Group,
     consumer: &Consumer,
     most: u64,
 ) -> Result<Answer, AllocError> {
     let name = bytes_answer(alloc, &consumer.name)?;
-    let pending = pending_rows(alloc, group, Some(consumer.number), most)?;
+    let pending = list_pending_rows(alloc, group, Some(consumer.number), most)?;
     let told = vec![in alloc;
         ("name", name),
         ("seen-time", number(consumer.seen_at)),
@@ -95,7 +106,7 @@ fn consumer_in_full(
 }
 
 /// The pending entries of all consumers, or of the one with this number.
-fn pending_rows(
+fn list_pending_rows(
     alloc: Global,
     group: &Group,
     only: Option<u64>,
@@ -117,7 +128,7 @@ fn pending_rows(
             left -= 1;
             put(
                 &mut rows,
-                pending_row(alloc, group, pending, only.is_some())?,
+                make_pending_row(alloc, group, pending, only.is_some())?,
             )?;
         }
     }
@@ -125,7 +136,7 @@ fn pending_rows(
 }
 
 /// The id, the consumer's name unless one consumer is requested, the delivery time, and the delivery count.
-fn pending_row(
+fn make_pending_row(
     alloc: Global,
     group: &Group,
     pending: Pending,
@@ -137,6 +148,6 @@ fn pending_row(
     if is_asked_for {
         return array(alloc, [id, given_at, deliveries]);
     }
-    let name = bytes_answer(alloc, name_of(group, pending.consumer))?;
+    let name = bytes_answer(alloc, find_consumer_name(group, pending.consumer))?;
     array(alloc, [id, name, given_at, deliveries])
 }

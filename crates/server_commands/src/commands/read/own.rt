@@ -10,7 +10,7 @@ ghost use Rattle.server_commands.specs.Rereading.{AreOwn, DeliversAgain, IsReady
 ghost use Rattle.server_commands.specs.Rereading.{sent_first, sent_own, with_entries};
 ghost use Rattle.server_commands.specs.Sent.{sent};
 
-use super::{Reader, row_answer};
+use super::{Reader, reply_with_row};
 use crate::answer::Answer;
 use crate::commands::answers::{array, entry_answer, put};
 use crate::commands::places::place_of_consumer;
@@ -40,11 +40,11 @@ pub(super) fn read_own(
     ensures ready { IfOk result (IsReadyAgain key.now reader.entry.consumer.now reader.entry.most behind
         stream.now.entries.items group.now) }
 {
-    let own = own_of(alloc, group, reader.consumer, behind, reader.most)?;
-    let answers = own_answers(alloc, stream, &own)?;
-    let delivered = still_there(alloc, stream, &own)?;
+    let own = find_own(alloc, group, reader.consumer, behind, reader.most)?;
+    let answers = make_own_answers(alloc, stream, &own)?;
+    let delivered = filter_existing(alloc, stream, &own)?;
     let room = group.room_for(alloc, reader.consumer, 0)?;
-    let answer = row_answer(alloc, key, answers)?;
+    let answer = reply_with_row(alloc, key, answers)?;
     Ok(Rereading {
         answer,
         delivered,
@@ -53,7 +53,7 @@ pub(super) fn read_own(
 }
 
 /// Finds the entries after the id that are pending for the consumer of this name, `most` at most.
-fn own_of(
+fn find_own(
     alloc: Global,
     group: &Group,
     consumer: &[u8],
@@ -65,13 +65,13 @@ fn own_of(
         → AllByRecursion (Contains group.now.pending.items) own.items) }
 {
     match place_of_consumer(group, consumer) {
-        Ok(index) => pending_for(alloc, group, group.consumers[index].number, behind, most),
+        Ok(index) => find_pending(alloc, group, group.consumers[index].number, behind, most),
         Err(_) => Ok(Vec::new(alloc)),
     }
 }
 
 /// Finds the entries after the id that are pending for the consumer of this number, `most` at most.
-fn pending_for(
+fn find_pending(
     alloc: Global,
     group: &Group,
     number: u64,
@@ -98,19 +98,23 @@ fn pending_for(
 }
 
 /// The reply for each of them: with the fields of its entry, or nil if that was deleted.
-fn own_answers(alloc: Global, stream: &Stream, own: &[Pending]) -> Result<Vec<Answer>, AllocError>
+fn make_own_answers(
+    alloc: Global,
+    stream: &Stream,
+    own: &[Pending],
+) -> Result<Vec<Answer>, AllocError>
     ensures { IfOk result (λ answers. AreInOrder stream.now.entries.items → map sent answers.items
         ≡ map (sent_own stream.now.entries.items) own.now) }
 {
     let mut answers = Vec::new(alloc);
     for pending in own {
-        put(&mut answers, own_answer(alloc, stream, pending.id)?)?;
+        put(&mut answers, make_own_answer(alloc, stream, pending.id)?)?;
     }
     Ok(answers)
 }
 
 /// The reply for the entry with this id, or the id and nil if the entry was deleted.
-fn own_answer(alloc: Global, stream: &Stream, id: EntryId) -> Result<Answer, AllocError>
+fn make_own_answer(alloc: Global, stream: &Stream, id: EntryId) -> Result<Answer, AllocError>
     ensures { IfOk result (λ answer. AreInOrder stream.now.entries.items
         → sent answer ≡ sent_first id (entry_with id stream.now.entries.items)) }
 {
@@ -121,7 +125,11 @@ fn own_answer(alloc: Global, stream: &Stream, id: EntryId) -> Result<Answer, All
 }
 
 /// Returns those whose entry is still in the stream.
-fn still_there(alloc: Global, stream: &Stream, own: &[Pending]) -> Result<Vec<Pending>, AllocError>
+fn filter_existing(
+    alloc: Global,
+    stream: &Stream,
+    own: &[Pending],
+) -> Result<Vec<Pending>, AllocError>
     ensures { IfOk result (λ there. AreInOrder stream.now.entries.items
         → there.items ≡ with_entries stream.now.entries.items own.now) }
 {
@@ -195,12 +203,12 @@ fn give_again(group: &mut Group, number: u64, now: u64, delivered: &[Pending])
     } }
 {
     for pending in delivered {
-        let _given = group.give(once_more(*pending, number, now));
+        let _given = group.give(deliver_once_more(*pending, number, now));
     }
 }
 
 /// The pending entry, redelivered to the consumer of this number.
-fn once_more(pending: Pending, number: u64, now: u64) -> Pending
+fn deliver_once_more(pending: Pending, number: u64, now: u64) -> Pending
     ensures { result ≡ taken_over number now false pending }
 {
     Pending {

@@ -10,20 +10,20 @@ returns-in-len6-clause-one c =
     (omega (arith, c.in-len6.len_at_least, c.in-len6.len_below)) (search rules) (search rules)
     (ok_so c.read_one.result _ _
     (rw (
-      c.usual_reader-reader.ensures.consumer,
-      c.usual_reader-reader.ensures.group,
-      c.usual_reader-reader.ensures.others.0,
-      c.usual_reader-reader.ensures.others.1,
+      c.make_usual_reader-reader.ensures.consumer,
+      c.make_usual_reader-reader.ensures.group,
+      c.make_usual_reader-reader.ensures.others.0,
+      c.make_usual_reader-reader.ensures.others.1,
       c.deref-in-len6.ensures.value,
       c.deref-in-len6-2.ensures.value,
       c.deref-in-len6-3.ensures.value,
       c.deref-in-len6-4.ensures.value,
-    ) at c.read_one.ensures.news) (λ answer read is. read is c.usual_reader-reader.ensures.others.2))
+    ) at c.read_one.ensures.news) (λ answer read is. read is c.make_usual_reader-reader.ensures.others.2))
     (rw (
-      c.usual_reader-reader.ensures.consumer,
-      c.usual_reader-reader.ensures.group,
-      c.usual_reader-reader.ensures.others.0,
-      c.usual_reader-reader.ensures.others.1,
+      c.make_usual_reader-reader.ensures.consumer,
+      c.make_usual_reader-reader.ensures.group,
+      c.make_usual_reader-reader.ensures.others.0,
+      c.make_usual_reader-reader.ensures.others.1,
       c.deref-in-len6.ensures.value,
       c.deref-in-len6-2.ensures.value,
       c.deref-in-len6-3.ensures.value,

@@ -17,9 +17,9 @@ loop-pending-preserved c =
       given = λ up all.
           given_next c.args.number c.args.claim.now.now c.args.claim.now.only_ids c.give-given.result c.args.claimed.now
           c.loop-pending.pending-index _ c.args.group.now.pending.items c.loop-pending.group new c.loop-pending-test.true up all
-          (c.loop-pending.invariant.given up all) (rw c.taken_over.ensures at c.give-given.ensures.ok)
-          (rw c.taken_over.ensures at c.give-given.ensures.err_new);
-      names = names_stay c.give-given.result c.taken_over.result c.loop-pending.group new c.give-given.ensures.ok
+          (c.loop-pending.invariant.given up all) (rw c.take_over_one.ensures at c.give-given.ensures.ok)
+          (rw c.take_over_one.ensures at c.give-given.ensures.err_new);
+      names = names_stay c.give-given.result c.take_over_one.result c.loop-pending.group new c.give-given.ensures.ok
           c.give-given.ensures.err_consumers ∙ c.loop-pending.invariant.names;
       others = c.give-given.ensures.others
           ∙ ap (λ (g : Group). record g { pending = new.pending; consumers = new.consumers }) c.loop-pending.invariant.others;

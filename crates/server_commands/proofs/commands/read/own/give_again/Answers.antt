@@ -17,9 +17,9 @@ loop-pending-preserved c =
       given = λ up all.
           given_next c.args.number c.args.now false c.give-given.result c.args.delivered.now
           c.loop-pending.pending-index _ c.args.group.now.pending.items c.loop-pending.group new c.loop-pending-test.true up all
-          (c.loop-pending.invariant.given up all) (rw c.once_more.ensures at c.give-given.ensures.ok)
-          (rw c.once_more.ensures at c.give-given.ensures.err_new);
-      names = names_stay c.give-given.result c.once_more.result c.loop-pending.group new c.give-given.ensures.ok
+          (c.loop-pending.invariant.given up all) (rw c.deliver_once_more.ensures at c.give-given.ensures.ok)
+          (rw c.deliver_once_more.ensures at c.give-given.ensures.err_new);
+      names = names_stay c.give-given.result c.deliver_once_more.result c.loop-pending.group new c.give-given.ensures.ok
           c.give-given.ensures.err_consumers ∙ c.loop-pending.invariant.names;
       others = c.give-given.ensures.others
           ∙ ap (λ (g : Group). record g { pending = new.pending; consumers = new.consumers }) c.loop-pending.invariant.others;

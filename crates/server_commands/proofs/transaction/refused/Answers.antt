@@ -1,5 +1,0 @@
-use Rattle.std.proofs.Common.{refl}
-use Rattle.server_commands.proofs.transaction.refused.Goals as goal
-
-pub returns : goal.returns
-returns c = (c.in_ok-into_text.ensures.memory, c.in_ok-into_text.field-0, refl)
