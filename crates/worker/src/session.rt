@@ -128,7 +128,7 @@ impl Worker {
         ensures settings { self.new.settings ≡ self.old.settings }
     {
         let asked = self.asked();
-        let len = received_len(alloc, connection, asked)?;
+        let len = wait_for_reply(alloc, connection, asked)?;
         let limits = connection.limits();
         match self.answered_in_place(alloc, connection.received(len), limits, handler) {
             Ok(progress) => {
@@ -270,7 +270,7 @@ impl Worker {
 }
 
 /// Waits until the next reply is complete in the buffer. Returns its length in bytes.
-fn received_len<R: Read + Drop, W: Write + Drop>(
+fn wait_for_reply<R: Read + Drop, W: Write + Drop>(
     alloc: Global,
     connection: &mut Connection<R, W>,
     asked: Asked,

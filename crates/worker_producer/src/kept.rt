@@ -10,7 +10,7 @@ impl Source for Vec<Record> {
     ghost records = { λ kept. Some (map fields_of kept.items) };
 
     fn read(&mut self, alloc: Global, behind: u64, most: usize) -> Result<Vec<Record>, NotRead> {
-        match copy_records(alloc, part_of(self, behind, most)) {
+        match copy_records(alloc, slice_records(self, behind, most)) {
             Ok(records) => Ok(records),
             Err(_error) => Err(NotRead),
         }
@@ -20,7 +20,7 @@ impl Source for Vec<Record> {
 }
 
 /// The records after the first `behind` ones, at most `most` of them.
-fn part_of(records: &[Record], behind: u64, most: usize) -> &[Record]
+fn slice_records(records: &[Record], behind: u64, most: usize) -> &[Record]
     ensures { result.now ≡ take most (drop behind records.now) }
 {
     let rest = if behind < records.len() as u64 {

@@ -99,13 +99,13 @@ fn parse_id(text: &str) -> Option<(u64, u64)>
     ensures { result ≡ numbers_in text.now }
 {
     let (first, second) = text.split_once('-')?;
-    let first = number_of(first)?;
-    let second = number_of(second)?;
+    let first = parse_number(first)?;
+    let second = parse_number(second)?;
     Some((first, second))
 }
 
 /// Parses a number; `None` if it does not fit 64 bits.
-fn number_of(text: &str) -> Option<u64>
+fn parse_number(text: &str) -> Option<u64>
     ensures { result ≡ option_and_then (within 64) (unsigned_of text.now) }
 {
     text.parse().ok()

@@ -274,7 +274,7 @@ impl Producer {
         }
         self.coming = 0;
         let stage = mem::replace(&mut self.stage, Stage::Asking);
-        self.stage = learn(alloc, self.settings.base, stage, reply, count)?;
+        self.stage = compute_stage(alloc, self.settings.base, stage, reply, count)?;
         Ok(())
     }
 }
@@ -298,7 +298,7 @@ fn compute_id_before(base: u64, known: u64, sent: u64) -> Result<u64, RequestErr
 
 /// The stage after the last reply.
 #[tactic(auto, using(crate::proofs::TakenLemmas::learnt_executed))]
-fn learn(
+fn compute_stage(
     alloc: Global,
     base: u64,
     stage: Stage,
@@ -310,7 +310,7 @@ fn learn(
     ensures err { IfErr result (Unlearnt base count (stage_of stage) (answer reply)) }
 {
     match stage {
-        Stage::Asking => learn_last(alloc, base, reply, count),
+        Stage::Asking => compute_stage_by_last_id(alloc, base, reply, count),
         Stage::Waits(batch) => {
             read_executed(reply, batch.sent)?;
             Ok(Stage::Knows(batch.known + batch.sent))
@@ -320,7 +320,12 @@ fn learn(
 }
 
 /// How many records are added, by the last id: none if it is at or below the base.
-fn learn_last(alloc: Global, base: u64, reply: Reply, count: u64) -> Result<Stage, FeedError>
+fn compute_stage_by_last_id(
+    alloc: Global,
+    base: u64,
+    reply: Reply,
+    count: u64,
+) -> Result<Stage, FeedError>
     ensures ok { IfOk result (λ next. Learns base count asking (stage_of next) (answer reply)) }
     ensures err { IfErr result (Unlearnt base count asking (answer reply)) }
 {

@@ -75,7 +75,7 @@ impl Producer {
         }
         match expected {
             Some(expected) => self.take_executed(alloc, connection, count, expected),
-            None => self.hear_reply(alloc, connection, count),
+            None => self.receive_reply(alloc, connection, count),
         }
     }
 
@@ -93,9 +93,9 @@ impl Producer {
             connection.new (standing_of self.old)) }
         ensures settings { self.new.settings ≡ self.old.settings }
     {
-        match self.hears_line(alloc, connection) {
+        match self.take_if_line(alloc, connection) {
             Ok(true) => Ok(()),
-            Ok(false) => self.hear_reply(alloc, connection, count),
+            Ok(false) => self.receive_reply(alloc, connection, count),
             Err(error) => Err(error),
         }
     }
@@ -114,15 +114,15 @@ impl Producer {
             connection.new (standing_of self.old)) }
         ensures settings { self.new.settings ≡ self.old.settings }
     {
-        match self.hears_executed(alloc, connection, expected) {
+        match self.take_if_executed(alloc, connection, expected) {
             Ok(true) => Ok(()),
-            Ok(false) => self.hear_reply(alloc, connection, count),
+            Ok(false) => self.receive_reply(alloc, connection, count),
             Err(error) => Err(error),
         }
     }
 
     /// Takes the next reply if it is the expected one. Returns whether it is; if not, the reply is not taken.
-    fn hears_executed<R: Read + Drop, W: Write + Drop>(
+    fn take_if_executed<R: Read + Drop, W: Write + Drop>(
         &mut self,
         alloc: Global,
         connection: &mut Connection<R, W>,
@@ -152,7 +152,7 @@ impl Producer {
 
     /// Takes the next reply if it is a simple string such as `+QUEUED`. Returns whether it is; if not, the reply is not
     /// taken.
-    fn hears_line<R: Read + Drop, W: Write + Drop>(
+    fn take_if_line<R: Read + Drop, W: Write + Drop>(
         &mut self,
         alloc: Global,
         connection: &mut Connection<R, W>,
@@ -180,7 +180,7 @@ impl Producer {
     }
 
     /// Takes the next reply, whatever it is.
-    fn hear_reply<R: Read + Drop, W: Write + Drop>(
+    fn receive_reply<R: Read + Drop, W: Write + Drop>(
         &mut self,
         alloc: Global,
         connection: &mut Connection<R, W>,

@@ -39,7 +39,7 @@ impl Form {
             name: String::from_str(alloc, "entries")?,
             create: String::from_str(alloc, CREATE)?,
             insert: String::from_str(alloc, INSERT)?,
-            insert_many: insert_many(alloc, "entries", 1)?,
+            insert_many: make_insert_many_statement(alloc, "entries", 1)?,
             holds: String::from_str(alloc, HOLDS)?,
         })
     }
@@ -51,21 +51,25 @@ impl Form {
     {
         Ok(Form {
             name: String::from_str(alloc, name)?,
-            create: create(alloc, name, columns)?,
-            insert: insert(alloc, name, columns)?,
-            insert_many: insert_many(alloc, name, columns.len())?,
-            holds: holds(alloc, name, columns)?,
+            create: make_create_statement(alloc, name, columns)?,
+            insert: make_insert_statement(alloc, name, columns)?,
+            insert_many: make_insert_many_statement(alloc, name, columns.len())?,
+            holds: make_holds_query(alloc, name, columns)?,
         })
     }
 }
 
 /// Returns the statement that creates the table.
-fn create(alloc: Global, name: &str, columns: &[Column]) -> Result<String, TableError>
+fn make_create_statement(
+    alloc: Global,
+    name: &str,
+    columns: &[Column],
+) -> Result<String, TableError>
     ensures { IfOk result (λ text. string_bytes text ≡ create_text name.now columns.now) }
 {
     let mut out = Vec::new(alloc);
     push_create(&mut out, name, columns)?;
-    text(out)
+    convert_to_string(out)
 }
 
 /// Appends the statement that creates the table.
@@ -80,12 +84,16 @@ fn push_create(out: &mut Vec<u8>, name: &str, columns: &[Column]) -> Result<(), 
 }
 
 /// Returns the statement that inserts a row.
-fn insert(alloc: Global, name: &str, columns: &[Column]) -> Result<String, TableError>
+fn make_insert_statement(
+    alloc: Global,
+    name: &str,
+    columns: &[Column],
+) -> Result<String, TableError>
     ensures { IfOk result (λ text. string_bytes text ≡ insert_text name.now columns.now) }
 {
     let mut out = Vec::new(alloc);
     push_insert(&mut out, name, columns)?;
-    text(out)
+    convert_to_string(out)
 }
 
 /// Appends the statement that inserts a row.
@@ -100,12 +108,12 @@ fn push_insert(out: &mut Vec<u8>, name: &str, columns: &[Column]) -> Result<(), 
 }
 
 /// Returns the statement that inserts `ROWS_AT_ONCE` rows, each with a key and `width` values.
-fn insert_many(alloc: Global, name: &str, width: usize) -> Result<String, TableError>
+fn make_insert_many_statement(alloc: Global, name: &str, width: usize) -> Result<String, TableError>
     ensures { IfOk result (λ text. string_bytes text ≡ insert_many_text name.now width) }
 {
     let mut out = Vec::new(alloc);
     push_insert_many(&mut out, name, width)?;
-    text(out)
+    convert_to_string(out)
 }
 
 /// Appends the statement that inserts `ROWS_AT_ONCE` rows.
@@ -149,12 +157,12 @@ fn push_places(out: &mut Vec<u8>, width: usize) -> Result<(), TableError>
 }
 
 /// Returns the query for a row with a key and values.
-fn holds(alloc: Global, name: &str, columns: &[Column]) -> Result<String, TableError>
+fn make_holds_query(alloc: Global, name: &str, columns: &[Column]) -> Result<String, TableError>
     ensures { IfOk result (λ text. string_bytes text ≡ holds_text name.now columns.now) }
 {
     let mut out = Vec::new(alloc);
     push_holds(&mut out, name, columns)?;
-    text(out)
+    convert_to_string(out)
 }
 
 /// Appends the query for a row with a key and values.
@@ -212,13 +220,13 @@ fn push_column(out: &mut Vec<u8>, column: &Column) -> Result<(), TableError>
     ensures { OnOk result (out.new.items ≡ out.old.items ++ column_text column.now) }
 {
     push_name(out, column.name.as_bytes())?;
-    out.extend_from_slice(kind(column.kind).as_bytes())?;
-    out.extend_from_slice(null(column.optional).as_bytes())?;
+    out.extend_from_slice(find_type_name(column.kind).as_bytes())?;
+    out.extend_from_slice(find_constraint(column.optional).as_bytes())?;
     Ok(out.extend_from_slice(b", ")?)
 }
 
 /// Returns the name of a column's type in SQL.
-fn kind(kind: Kind) -> &'static str
+fn find_type_name(kind: Kind) -> &'static str
     ensures { result.now ≡ kind_text kind }
 {
     match kind {
@@ -229,7 +237,7 @@ fn kind(kind: Kind) -> &'static str
 }
 
 /// Returns the constraint of a column. `optional` says whether a row may have no value there.
-fn null(optional: bool) -> &'static str
+fn find_constraint(optional: bool) -> &'static str
     ensures { result.now ≡ null_text optional }
 {
     if optional { "" } else { " NOT NULL" }
@@ -266,7 +274,7 @@ fn push_condition(out: &mut Vec<u8>, name: &[u8]) -> Result<(), TableError>
 }
 
 /// Converts bytes that are UTF-8 to a string.
-fn text(bytes: Vec<u8>) -> Result<String, TableError>
+fn convert_to_string(bytes: Vec<u8>) -> Result<String, TableError>
     ensures { IfOk result (λ text. string_bytes text ≡ bytes.items) }
 {
     match String::from_utf8(bytes) {

@@ -152,7 +152,7 @@ impl<S: Alter + Drop> Table for SqliteTable<S> {
 fn convert_error(error: Error) -> TableError
     ensures { IsNamed result }
 {
-    TableError::Refused(reason(error))
+    TableError::Refused(describe_error(error))
 }
 
 /// Executes a statement without parameters.
@@ -222,32 +222,32 @@ fn make<S: Alter + Drop>(
     ensures named { IfErr result IsNamedAtOpening }
     ensures made { OnOk result (IsMade S.Store conn.old conn.new name.now create.now) }
 {
-    match definition(alloc, conn, name)? {
+    match find_definition(alloc, conn, name)? {
         None => Ok(run(conn, create)?),
         Some(text) if text.as_slice() == create.as_bytes() => Ok(()),
-        Some(text) => Err(another(text)),
+        Some(text) => Err(make_other_form_error(text)),
     }
 }
 
 /// Returns the error for a value that a table of this form cannot have.
-fn malformed_error() -> TableError
+fn make_malformed_error() -> TableError
     ensures { IsNamed result }
 {
     TableError::Refused("the database is malformed")
 }
 
 /// Returns the error for an existing table of another form. `text` is the SQL that created it.
-fn another(text: Vec<u8>) -> OpenError
+fn make_other_form_error(text: Vec<u8>) -> OpenError
     ensures { IsNamedAtOpening result }
 {
     match String::from_utf8(text) {
         Ok(text) => OpenError::Another(text),
-        Err(_) => OpenError::Table(malformed_error()),
+        Err(_) => OpenError::Table(make_malformed_error()),
     }
 }
 
 /// Returns the text of the `CREATE` statement of the table `name`, or `None` if the table does not exist.
-fn definition<S: Alter + Drop>(
+fn find_definition<S: Alter + Drop>(
     alloc: Global,
     conn: &mut Connection<S>,
     name: &str,
@@ -256,12 +256,12 @@ fn definition<S: Alter + Drop>(
     ensures found { IfOk result (λ found. Found S.Store conn.old conn.new known_text (Text name.now ∷ [])
         (option_map (λ text. text.items) found)) }
 {
-    text_of(alloc, conn, KNOWN, &[ValueRef::Text(name.as_bytes())])
+    query_text(alloc, conn, KNOWN, &[ValueRef::Text(name.as_bytes())])
 }
 
 /// Returns the first value of the query's first row, which must be a text. Returns `None` if the query returns
 /// no row.
-fn text_of<S: Alter + Drop>(
+fn query_text<S: Alter + Drop>(
     alloc: Global,
     conn: &mut Connection<S>,
     sql: &str,
@@ -278,14 +278,14 @@ fn text_of<S: Alter + Drop>(
     };
     match row.get_ref(0) {
         Ok(ValueRef::Text(text)) => Ok(Some(Vec::from_slice(alloc, text)?)),
-        _ => Err(malformed_error()),
+        _ => Err(make_malformed_error()),
     }
 }
 
 /// Returns the reason that an error of the database gives.
-fn reason(error: Error) -> &'static str {
+fn describe_error(error: Error) -> &'static str {
     match error {
-        Error::SqliteFailure(code) => code_reason(code),
+        Error::SqliteFailure(code) => describe_code(code),
         Error::SqlInputError(CompileError::NoSuchTable) => {
             "its table has a trigger or an index that this program does not run, or is gone"
         }
@@ -295,7 +295,7 @@ fn reason(error: Error) -> &'static str {
 }
 
 /// Returns the text for an error code of the database.
-fn code_reason(code: ErrorCode) -> &'static str {
+fn describe_code(code: ErrorCode) -> &'static str {
     match code {
         ErrorCode::ConstraintViolation(_) => "a row breaks a rule of the table",
         ErrorCode::NotADatabase => "the file is no database, or its rows break its rules",

@@ -44,13 +44,13 @@ fn push_row<'a>(values: &mut Vec<ValueRef<'a>>, row: &'a Row) -> Result<(), Tabl
 fn push_key(values: &mut Vec<ValueRef<'_>>, first: u64, second: u64) -> Result<(), TableError>
     ensures { OnOk result (bound values.new.items ≡ bound values.old.items ++ key_values (first, second)) }
 {
-    let (first, second) = key_of(first, second)?;
+    let (first, second) = convert_key(first, second)?;
     values.push(ValueRef::Int(first))?;
     Ok(values.push(ValueRef::Int(second))?)
 }
 
 /// Converts a key to two signed numbers. A number of 2^63 or more is an error.
-fn key_of(first: u64, second: u64) -> Result<(i64, i64), TableError>
+fn convert_key(first: u64, second: u64) -> Result<(i64, i64), TableError>
     ensures { IfOk result (λ k. (k.0 ≡ pos first) × (k.1 ≡ pos second)) }
 {
     match (i64::try_from(first), i64::try_from(second)) {
@@ -90,13 +90,13 @@ fn push_values<'a>(values: &mut Vec<ValueRef<'a>>, cells: &'a [Cell]) -> Result<
     ensures { OnOk result (bound values.new.items ≡ bound values.old.items ++ values_of (cells_of cells.now)) }
 {
     for cell in cells {
-        values.push(value_of(cell))?;
+        values.push(convert_cell(cell))?;
     }
     Ok(())
 }
 
 /// Converts a cell to a value of SQL.
-fn value_of<'a>(cell: &'a Cell) -> ValueRef<'a>
+fn convert_cell<'a>(cell: &'a Cell) -> ValueRef<'a>
     ensures { bound_value (owned result) ≡ value_of (cell_of cell.now) }
 {
     match cell {

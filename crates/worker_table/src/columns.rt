@@ -88,13 +88,17 @@ fn push_cells(
     ensures err { IfErr result (IsWhyOfOne columns.now (pairs_or_none entry.now.fields)) }
 {
     for column in columns {
-        cells.push(column_cell(alloc, column, entry)?)?;
+        cells.push(read_column_cell(alloc, column, entry)?)?;
     }
     Ok(())
 }
 
 /// Returns the value of an entry in `column`.
-fn column_cell(alloc: Global, column: &Column, entry: &EntryRef<'_>) -> Result<Cell, CellsError>
+fn read_column_cell(
+    alloc: Global,
+    column: &Column,
+    entry: &EntryRef<'_>,
+) -> Result<Cell, CellsError>
     ensures ok { IfOk result (λ cell. cell_of cell ≡ cell_in (pairs_or_none entry.now.fields) column.now) }
     ensures err { IfErr result (IsWhyOf column.now (pairs_or_none entry.now.fields)) }
 {

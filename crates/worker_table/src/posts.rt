@@ -27,7 +27,7 @@ pub fn posted_row(
       ),
     )) }
 {
-    let command = add_command(alloc, target, entry)?;
+    let command = make_add_command(alloc, target, entry)?;
     let question = pack_command(alloc, &("XRANGE", target, entry.id(), entry.id()))?;
     Ok(PostedRow {
         row,
@@ -38,7 +38,7 @@ pub fn posted_row(
 
 /// Returns the command `XADD target id name value ..`. It adds the entry under its own id, with its own fields
 /// in order.
-fn add_command(alloc: Global, target: &str, entry: &EntryRef<'_>) -> Result<Vec<u8>, PackError>
+fn make_add_command(alloc: Global, target: &str, entry: &EntryRef<'_>) -> Result<Vec<u8>, PackError>
     ensures { IfOk result (λ bytes. bytes.items ≡ command_bytes (add_words target.now (pair_of entry.now))) }
 {
     let mut fields = Vec::with_capacity(alloc, 16)?;

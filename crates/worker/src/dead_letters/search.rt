@@ -96,13 +96,17 @@ impl DeadLetterSearch {
         ensures refused { IfErr result (IsRefused (string_bytes settings.old.key) to) }
     {
         check_settings(settings.key(), &to)?;
-        let search = DeadLetterSearch::of(alloc, settings, to)?;
+        let search = DeadLetterSearch::from_settings(alloc, settings, to)?;
         settings.set_one_at_a_time(true);
         Ok(search)
     }
 
     /// Returns the search with the names in these settings.
-    fn of(alloc: Global, settings: &Settings, to: GiveUp) -> Result<DeadLetterSearch, AllocError>
+    fn from_settings(
+        alloc: Global,
+        settings: &Settings,
+        to: GiveUp,
+    ) -> Result<DeadLetterSearch, AllocError>
         ensures names { IfOk result (λ d. (string_bytes d.key ≡ string_bytes settings.now.key)
             × (string_bytes d.group ≡ string_bytes settings.now.group)
             × (string_bytes d.consumer ≡ string_bytes settings.now.consumer)) }
@@ -290,7 +294,7 @@ impl DeadLetterSearch {
         ensures same { self.new ≡ record self.old { letters = self.new.letters } }
         ensures err { OnErr result (BreaksBesides connection.old connection.new) }
     {
-        let page = self.page(alloc, connection, start, own)?;
+        let page = self.list_pending(alloc, connection, start, own)?;
         let next = find_next_start(alloc, &page)?;
         let entries = keep_too_often(page, self.deliveries);
         let min_idle = if own { 0 } else { self.min_idle };
@@ -299,7 +303,7 @@ impl DeadLetterSearch {
     }
 
     /// Returns the pending entries from this id on, or an empty list if there is no group.
-    fn page<R: Read + Drop, W: Write + Drop>(
+    fn list_pending<R: Read + Drop, W: Write + Drop>(
         &self,
         alloc: Global,
         connection: &mut Connection<R, W>,
@@ -337,7 +341,7 @@ impl DeadLetterSearch {
         ensures same { self.new ≡ record self.old { letters = self.new.letters } }
     {
         let mut desk = self.make_queue(alloc)?;
-        self.post_all(alloc, connection, &mut desk, entries, min_idle)?;
+        self.claim_and_queue_letters(alloc, connection, &mut desk, entries, min_idle)?;
         deliver(alloc, connection, &mut desk, &mut self.letters)
     }
 
@@ -352,7 +356,7 @@ impl DeadLetterSearch {
     }
 
     /// Claims these entries, and gives them up.
-    fn post_all<R: Read + Drop, W: Write + Drop>(
+    fn claim_and_queue_letters<R: Read + Drop, W: Write + Drop>(
         &self,
         alloc: Global,
         connection: &mut Connection<R, W>,
@@ -370,7 +374,7 @@ impl DeadLetterSearch {
     {
         for entry in entries {
             let rows = self.claim(alloc, connection, entry.id.as_str(), min_idle)?;
-            post(alloc, desk, entry, &rows)?;
+            queue_letter(alloc, desk, entry, &rows)?;
         }
         Ok(())
     }
@@ -489,7 +493,7 @@ fn collect_waiting(alloc: Global, rows: Vec<Row>) -> Result<Vec<Waiting>, AllocE
 
 /// Queues the letter of a claimed entry. Queues nothing if another consumer has the entry, or if it was
 /// deleted.
-fn post(
+fn queue_letter(
     alloc: Global,
     desk: &mut DeadLetters,
     entry: &Waiting,
@@ -507,7 +511,7 @@ fn post(
     if claimed.as_str() != entry.id.as_str() {
         return Err(SearchError::OtherEntry);
     }
-    post_fields(alloc, desk, entry, texts)
+    queue_letter_with_fields(alloc, desk, entry, texts)
 }
 
 /// Returns the only row, or `None` if there is not exactly one.
@@ -523,7 +527,7 @@ fn take_only_row(rows: &[Option<(String, Vec<RawBytes>)>]) -> Option<&(String, V
 
 /// Queues the letter of an entry with these names and values. Queues nothing if there are none, as for a
 /// deleted entry.
-fn post_fields(
+fn queue_letter_with_fields(
     alloc: Global,
     desk: &mut DeadLetters,
     entry: &Waiting,
@@ -535,7 +539,7 @@ fn post_fields(
     ensures names { names_of desk.new ≡ names_of desk.old }
     ensures added { (desk_of desk.new).added ≡ (desk_of desk.old).added }
 {
-    let Some(fields) = pair_up(alloc, texts)? else {
+    let Some(fields) = collect_pairs(alloc, texts)? else {
         return Err(SearchError::NoValue);
     };
     let Some(fields) = AtLeastOne::new(&fields) else {
@@ -575,7 +579,7 @@ fn find_next_start(alloc: Global, page: &[Waiting]) -> Result<Option<String>, Al
 }
 
 /// Pairs up names and values that follow each other by turns. Returns `None` if the last name has no value.
-fn pair_up<'a>(
+fn collect_pairs<'a>(
     alloc: Global,
     texts: &'a [RawBytes],
 ) -> Result<Option<Vec<(&'a [u8], &'a [u8])>>, AllocError>

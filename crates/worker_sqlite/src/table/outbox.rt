@@ -8,7 +8,7 @@ ghost use Rattle.worker_table.specs.RowTable.Posts.{post_for};
 ghost use Rattle.worker_sqlite.specs.Outbox.{AreValues, Counts, FoundPost, ShowsOutbox, WaitsIn, bytes_value, enqueue_text, first_text, number_value, outbox_create, post_values, remove_text};
 ghost use Rattle.worker_sqlite.specs.Statements.{IsMade, IsNamedAtOpening, LeavesBy, Ran, RanOne, Shows, TakesBack, key_values, row_values};
 
-use super::{SqliteTable, convert_error, definition, make, malformed_error};
+use super::{SqliteTable, convert_error, find_definition, make, make_malformed_error};
 use crate::error::OpenError;
 use crate::values::{values_of_key, values_of_post};
 use sqlite::types::ValueRef;
@@ -112,7 +112,7 @@ impl<S: Alter + Drop> WithOutbox for SqliteOutbox<S> {
             first_text (option_map post_of found)) }
         ensures form { self.new.table.form ≡ self.old.table.form }
     {
-        first_post(alloc, &mut self.table.conn)
+        find_first_post(alloc, &mut self.table.conn)
     }
 
     /// Executes `DELETE` with the key.
@@ -164,7 +164,7 @@ impl<S: Alter + Drop> SqliteTable<S> {
         if !has_outbox(alloc, &mut self.conn)? {
             return Ok(None);
         }
-        let Some(first) = first_post(alloc, &mut self.conn)? else {
+        let Some(first) = find_first_post(alloc, &mut self.conn)? else {
             return Ok(None);
         };
         let count = count_posts(&mut self.conn)?;
@@ -176,7 +176,7 @@ impl<S: Alter + Drop> SqliteTable<S> {
 fn has_outbox<S: Alter + Drop>(alloc: Global, conn: &mut Connection<S>) -> Result<bool, TableError>
     ensures { IfOk result (ShowsOutbox S.Store conn.old conn.new) }
 {
-    match definition(alloc, conn, OUTBOX)? {
+    match find_definition(alloc, conn, OUTBOX)? {
         None => Ok(false),
         Some(text) if text.as_slice() == OUTBOX_CREATE.as_bytes() => Ok(true),
         Some(_) => Ok(false),
@@ -188,7 +188,7 @@ fn count_posts<S: Alter + Drop>(conn: &mut Connection<S>) -> Result<u64, TableEr
     ensures { IfOk result (Counts S.Store conn.old conn.new) }
 {
     match conn.query_row(COUNT, &[]) {
-        Ok(row) => number_at(&row, 0),
+        Ok(row) => read_number(&row, 0),
         Err(error) => Err(convert_error(error)),
     }
 }
@@ -208,57 +208,57 @@ fn write<S: Alter + Drop>(
 }
 
 /// Returns the post with the smallest key, or `None` if there are no posts.
-fn first_post<S: Alter + Drop>(
+fn find_first_post<S: Alter + Drop>(
     alloc: Global,
     conn: &mut Connection<S>,
 ) -> Result<Option<Post>, TableError>
     ensures { IfOk result (λ found. FoundPost S.Store conn.old conn.new first_text (option_map post_of found)) }
 {
     match conn.query_row(FIRST, &[]) {
-        Ok(row) => Ok(Some(post_in(alloc, &row)?)),
+        Ok(row) => Ok(Some(read_post(alloc, &row)?)),
         Err(Error::QueryReturnedNoRows) => Ok(None),
         Err(error) => Err(convert_error(error)),
     }
 }
 
 /// Reads a post from a row with two numbers and two blobs.
-fn post_in(alloc: Global, row: &Shown) -> Result<Post, TableError>
+fn read_post(alloc: Global, row: &Shown) -> Result<Post, TableError>
     ensures { IfOk result (λ post. AreValues row.now (post_of post)) }
 {
     Ok(Post {
-        first: number_at(row, 0)?,
-        second: number_at(row, 1)?,
-        command: bytes_at(alloc, row, 2)?,
-        question: bytes_at(alloc, row, 3)?,
+        first: read_number(row, 0)?,
+        second: read_number(row, 1)?,
+        command: read_bytes(alloc, row, 2)?,
+        question: read_bytes(alloc, row, 3)?,
     })
 }
 
 /// Returns the number in the column with index `at`.
-fn number_at(row: &Shown, at: usize) -> Result<u64, TableError>
+fn read_number(row: &Shown, at: usize) -> Result<u64, TableError>
     ensures { IfOk result (λ number. column row.now at ≡ number_value number) }
 {
     match row.get_ref(at) {
-        Ok(ValueRef::Int(number)) => unsigned(number),
-        _ => Err(malformed_error()),
+        Ok(ValueRef::Int(number)) => convert_to_unsigned(number),
+        _ => Err(make_malformed_error()),
     }
 }
 
 /// Converts a number that must not be negative.
-fn unsigned(number: i64) -> Result<u64, TableError>
+fn convert_to_unsigned(number: i64) -> Result<u64, TableError>
     ensures { IfOk result (λ n. number ≡ pos n) }
 {
     match u64::try_from(number) {
         Ok(number) => Ok(number),
-        Err(_) => Err(malformed_error()),
+        Err(_) => Err(make_malformed_error()),
     }
 }
 
 /// Returns the bytes in the column with index `at`.
-fn bytes_at(alloc: Global, row: &Shown, at: usize) -> Result<Vec<u8>, TableError>
+fn read_bytes(alloc: Global, row: &Shown, at: usize) -> Result<Vec<u8>, TableError>
     ensures { IfOk result (λ bytes. column row.now at ≡ bytes_value bytes.items) }
 {
     match row.get_ref(at) {
         Ok(ValueRef::Blob(bytes)) => Ok(Vec::from_slice(alloc, bytes)?),
-        _ => Err(malformed_error()),
+        _ => Err(make_malformed_error()),
     }
 }

@@ -15,7 +15,7 @@ pub returns-clause-shown : goal.returns-clause-shown
 returns-clause-shown g c =
     let has : c.in_ok-has_outbox.field-0 ≡ true = search rules in (
       c.has_outbox.new.conn,
-      c.first_post.new.conn,
+      c.find_first_post.new.conn,
       subst (λ (b : Bool). ShowsOutbox g.S.Store c.args.self.now.conn c.has_outbox.new.conn b) has c.in_ok-has_outbox.ensures,
       (rw c.in-Some.is at c.in_ok-first.ensures),
       c.in_ok-count.ensures,

@@ -2,7 +2,7 @@ use Rattle.std.proofs.Common.{◌≡◌, ◌-◌, ◌+◌, ◌≤◌, ap, arith,
 use Rattle.redis_wire.specs.Reply.{answer}
 use Rattle.model_server.specs.Once.Feed.{knows}
 use Rattle.worker_producer.proofs.TakenLemmas.{learnt_last}
-use Rattle.worker_producer.proofs.producer.learn_last.Goals as goal
+use Rattle.worker_producer.proofs.producer.compute_stage_by_last_id.Goals as goal
 
 pub returns-then-last-base-clause-ok : goal.returns-then-last-base-clause-ok
 returns-then-last-base-clause-ok c =

@@ -2,7 +2,7 @@ use Rattle.std.proofs.Common.{◌≡◌, List, take}
 use Rattle.worker.specs.Letters.{Entry}
 use Rattle.worker.specs.DeadLetters.Dead.{PostsAll, claimer_of}
 use Rattle.worker.specs.Letters.{desk_of, names_of}
-use Rattle.worker.proofs.dead_letters.search.DeadLetterSearch.post_all.Given as goal
+use Rattle.worker.proofs.dead_letters.search.DeadLetterSearch.claim_and_queue_letters.Given as goal
 
 -- the entries so far were claimed and posted, under the same names
 abbrev pub invariant-loop-entry : goal.invariant-loop-entry

@@ -6,7 +6,7 @@ use Rattle.worker.specs.DeadLetters.Dead.{BreaksOff, Posted, PostsAll, claim_wor
 use Rattle.worker.specs.Letters.{Names}
 use Rattle.worker.specs.Letters.{desk_of}
 use Rattle.worker.proofs.DeadLettersLemmas.DeadLemmas.{on_err, posts_break, posts_on}
-use Rattle.worker.proofs.dead_letters.search.DeadLetterSearch.post_all.Goals as goal
+use Rattle.worker.proofs.dead_letters.search.DeadLetterSearch.claim_and_queue_letters.Goals as goal
 
 pub returns-in_err-rows-clause-err : goal.returns-in_err-rows-clause-err
 returns-in_err-rows-clause-err g c =
@@ -21,19 +21,19 @@ returns-in_err-rows-clause-err g c =
     c.as_str.ensures.value c.in_err-rows.ensures.err)
     refl)
 
-pub returns-in_err-post-clause-err : goal.returns-in_err-post-clause-err
-returns-in_err-post-clause-err g c =
+pub returns-in_err-queue_letter-clause-err : goal.returns-in_err-queue_letter-clause-err
+returns-in_err-queue_letter-clause-err g c =
     let so_far = c.loop-entry.invariant.posts in
     let claimer = claimer_of c.args.self.now c.args.min_idle in
     let asks = c.in_ok-rows.ensures.ok in
-    on_err c.from_residual-in_err-post.result
+    on_err c.from_residual-in_err-queue_letter.result
     (posts_break claimer (string_bytes c.args.desk.now.dead) c.args.entries.now c.loop-entry.entry-index
     c.entry-item.result so_far.0 c.args.connection.now c.loop-entry.connection c.claim.new.connection
-    (desk_of c.args.desk.now) (desk_of c.loop-entry.desk) (desk_of c.post.new.desk) c.loop-entry-test.true
+    (desk_of c.args.desk.now) (desk_of c.loop-entry.desk) (desk_of c.queue_letter.new.desk) c.loop-entry-test.true
     (sym c.entry-item.is) so_far.1
     (subst (λ id. BreaksOff (claim_words claimer id) c.loop-entry.connection c.claim.new.connection)
     c.as_str.ensures.value (inr (inr (value asks.0, asks.1))))
-    c.in_err-post.ensures.err)
+    c.in_err-queue_letter.ensures.err)
 
 pub loop-entry-preserved : goal.loop-entry-preserved
 loop-entry-preserved g c =
@@ -48,18 +48,18 @@ loop-entry-preserved g c =
     let new = c.claim.new.connection in
     let desk = desk_of c.args.desk.now in
     let d = desk_of c.loop-entry.desk in
-    let d' = desk_of c.post.new.desk in
+    let d' = desk_of c.queue_letter.new.desk in
     let rows = rows_of c.in_ok-rows.rows.items in
     let asks = subst (λ id. Asks m new (claim_words claimer id) rows_reading rows) c.as_str.ensures.value
     c.in_ok-rows.ensures.ok in
     let posted : Posted dead w rows d d' =
     subst (λ xs. Posted dead w (rows_of xs) d d') c.deref.ensures.value
     (subst (λ (n : Names). Posted n.2 w (rows_of c.deref.result.now) d d') c.loop-entry.invariant.names
-    c.in_ok-post.ensures.ok) in
+    c.in_ok-queue_letter.ensures.ok) in
     let one = posts_on claimer dead (take k ws) w so_far.0 rows old m new desk d d' so_far.1 asks posted in
     let all : take k ws ++ w ∷ [] ≡ take (k + 1) ws =
     sym (take_more ws k w c.loop-entry-test.true ∙ ap (λ x. take k ws ++ x ∷ []) (sym c.entry-item.is)) in
     record {
-      names = c.in_ok-post.ensures.names ∙ c.loop-entry.invariant.names;
+      names = c.in_ok-queue_letter.ensures.names ∙ c.loop-entry.invariant.names;
       posts = (one.0, subst (λ xs. PostsAll claimer dead xs one.0 old desk new d') all one.1);
     }

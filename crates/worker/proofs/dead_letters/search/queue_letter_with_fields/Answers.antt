@@ -1,6 +1,6 @@
 use Rattle.std.proofs.Common.{◌∙◌, string_bytes}
 use Rattle.worker.proofs.DeadLettersLemmas.DeadLemmas.{posted_pairs}
-use Rattle.worker.proofs.dead_letters.search.post_fields.Goals as goal
+use Rattle.worker.proofs.dead_letters.search.queue_letter_with_fields.Goals as goal
 
 pub returns-in-Ok-clause-ok : goal.returns-in-Ok-clause-ok
 returns-in-Ok-clause-ok c =

@@ -1,7 +1,7 @@
 use Rattle.std.proofs.Common.{◌∙◌, IfOk, ap, inl, map, refl, subst, sym}
 use Rattle.worker.specs.DeadLetters.Besides.{OnlyLooks}
 use Rattle.worker.specs.DeadLetters.Dead.{ReadsPage, page_words, searcher_of, waiting_of}
-use Rattle.worker.proofs.dead_letters.search.DeadLetterSearch.page.Goals as goal
+use Rattle.worker.proofs.dead_letters.search.DeadLetterSearch.list_pending.Goals as goal
 
 pub returns-then-own-clause-ok : goal.returns-then-own-clause-ok
 returns-then-own-clause-ok g c =

@@ -2,7 +2,7 @@ use Rattle.std.proofs.Common.{◌∙◌, ℕ, Ok, ap, subst, sym}
 use Rattle.worker_producer.specs.Executed.{HoldsExecuted}
 use Rattle.worker_producer.specs.Machine.{stage_of, standing_of}
 use Rattle.worker_producer.proofs.ExecutedLemmas.{executed_heard}
-use Rattle.worker_producer.proofs.producer.Producer.hears_executed.Goals as goal
+use Rattle.worker_producer.proofs.producer.Producer.take_if_executed.Goals as goal
 
 pub returns-in-Some-clause-taken : goal.returns-in-Some-clause-taken
 returns-in-Some-clause-taken g c is base count =

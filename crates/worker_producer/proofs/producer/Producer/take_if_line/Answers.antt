@@ -1,7 +1,7 @@
 use Rattle.std.proofs.Common.{ap}
 use Rattle.worker_producer.specs.Machine.{stage_of, standing_of}
 use Rattle.worker_producer.proofs.LineLemmas.{line_heard}
-use Rattle.worker_producer.proofs.producer.Producer.hears_line.Goals as goal
+use Rattle.worker_producer.proofs.producer.Producer.take_if_line.Goals as goal
 
 pub returns-else-not-is_line-clause-taken : goal.returns-else-not-is_line-clause-taken
 returns-else-not-is_line-clause-taken g c is base count =

@@ -1,6 +1,6 @@
 use Rattle.redis_connection.specs.Passing.{IsAnswerInPlace}
 use Rattle.worker.proofs.SessionLemmas.{not_received, received_ok}
-use Rattle.worker.proofs.session.received_len.Goals as goal
+use Rattle.worker.proofs.session.wait_for_reply.Goals as goal
 
 pub returns-clause-ok : goal.returns-clause-ok
 returns-clause-ok g c =

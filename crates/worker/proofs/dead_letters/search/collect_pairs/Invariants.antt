@@ -1,6 +1,6 @@
 use Rattle.std.proofs.Common.{◌≡◌, ◌%◌, ◌∷◌, [], ◌++◌, length, map}
 use Rattle.std.specs.List.{flat_map}
-use Rattle.worker.proofs.dead_letters.search.pair_up.Given as goal
+use Rattle.worker.proofs.dead_letters.search.collect_pairs.Given as goal
 
 -- the pairs so far and what is left are all the texts
 abbrev pub invariant-loop-rest : goal.invariant-loop-rest
