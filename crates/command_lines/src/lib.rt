@@ -125,11 +125,11 @@ pub fn tell<R: Eprint>(alloc: Global, rt: &R, error: &Error) -> io::Result<ExitC
         → kind_of error.now ≢ ErrorKind.DisplayVersion → kind_of error.now ≢ ErrorKind.OutOfMemory
         → exit_status code ≡ 2) }
 {
-    match shown(alloc, error) {
+    match format_error(alloc, error) {
         Ok(text) => eprint!(rt; "{text}")?,
         Err(_) => return Err(io::Error::from(io::ErrorKind::OutOfMemory)),
     }
-    Ok(ExitCode::from(status_of(error)))
+    Ok(ExitCode::from(choose_status(error)))
 }
 
 /// Writes the help, the version or the error for these arguments to standard error. Returns the exit status 0
@@ -155,7 +155,7 @@ pub fn tell_line<R: Eprint>(
 /// The exit status for invalid arguments.
 const WRONG: u8 = 2;
 
-fn status_of(error: &Error) -> u8
+fn choose_status(error: &Error) -> u8
     ensures asked { (kind_of error.now ≡ ErrorKind.DisplayHelp)
         ⊎ (kind_of error.now ≡ ErrorKind.DisplayVersion) → result ≡ 0 }
     ensures memory { kind_of error.now ≡ ErrorKind.OutOfMemory → result ≡ 1 }
@@ -193,10 +193,10 @@ const MOVED: &str =
 
 /// Returns the text of an error for display. Each control character of an argument becomes `?`, since it could
 /// control a terminal.
-fn shown(alloc: Global, error: &Error) -> Result<String, AllocError> {
+fn format_error(alloc: Global, error: &Error) -> Result<String, AllocError> {
     let text = format!(in alloc; "{error}")?;
     if error.kind() == ErrorKind::DisplayVersion {
-        return with_build(alloc, text.trim_end());
+        return add_build(alloc, text.trim_end());
     }
     let mut shown = String::new(alloc);
     for letter in text.chars() {
@@ -208,7 +208,7 @@ fn shown(alloc: Global, error: &Error) -> Result<String, AllocError> {
 
 /// Returns the name, the version and the build of a program. The trailing spaces are searched for in a copy
 /// that begins with `version`, so that a compiler cannot compute the text of `BUILD` in advance.
-fn with_build(alloc: Global, version: &str) -> Result<String, AllocError> {
+fn add_build(alloc: Global, version: &str) -> Result<String, AllocError> {
     let mut text = String::from_str(alloc, version)?;
     text.push_str(" (")?;
     for letter in BUILD.chars().skip(MARK) {
@@ -436,13 +436,13 @@ pub(crate) fn wait_of(
     let Some([replicas, milliseconds]) = matches.get_strs("wait") else {
         return Ok(None);
     };
-    let replicas = positive(alloc, command, replicas)?;
-    let milliseconds = positive(alloc, command, milliseconds)?;
+    let replicas = parse_positive(alloc, command, replicas)?;
+    let milliseconds = parse_positive(alloc, command, milliseconds)?;
     Ok(Some((replicas, milliseconds)))
 }
 
 /// Parses a number of `--wait`. A number that is not at least 1 is an error.
-fn positive(alloc: Global, command: &mut Command<'_>, word: &str) -> Result<u64, Error>
+fn parse_positive(alloc: Global, command: &mut Command<'_>, word: &str) -> Result<u64, Error>
     ensures range { IfOk result (λ number. 0 < number) }
     ensures value { IfOk result (λ number. number ≡ number_of word.now) }
     ensures err { IfErr result (λ e. (kind_of e ≡ ErrorKind.ValueValidation)

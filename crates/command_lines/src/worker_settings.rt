@@ -26,19 +26,19 @@ pub fn settings_of(
         (found_of matches.now) settings) }
     ensures err { IfErr result (λ e. (kind_of e ≡ ErrorKind.ValueValidation) ⊎ (kind_of e ≡ ErrorKind.OutOfMemory)) }
 {
-    let mut settings = named_settings(alloc, command, matches)?;
-    if let Err(error) = settings.set_count(number_of(matches, count)) {
+    let mut settings = make_settings(alloc, command, matches)?;
+    if let Err(error) = settings.set_count(find_number(matches, count)) {
         return Err(refused(alloc, command, &error));
     }
-    settings.set_block(number_of(matches, &BLOCK));
-    settings.set_min_idle(number_of(matches, &IDLE));
-    settings.set_every(number_of(matches, &EVERY));
+    settings.set_block(find_number(matches, &BLOCK));
+    settings.set_min_idle(find_number(matches, &IDLE));
+    settings.set_every(find_number(matches, &EVERY));
     settings.set_make_group(make_group(word_of(matches, "from")));
     Ok(settings)
 }
 
 /// Returns settings with the names KEY, GROUP and CONSUMER and the default numbers.
-fn named_settings(
+fn make_settings(
     alloc: Global,
     command: &mut Command<'_>,
     matches: &ArgMatches<'_>,
@@ -58,7 +58,7 @@ fn named_settings(
 }
 
 /// Returns the number of an option. If the option is absent, clap supplies the default.
-fn number_of(matches: &ArgMatches<'_>, number: &Number) -> usize
+fn find_number(matches: &ArgMatches<'_>, number: &Number) -> usize
     ensures { IsNumber (found_of matches.now) number.now.name.now number.now.least number.now.most result }
 {
     number.of(matches).unwrap_or(number.least) as usize

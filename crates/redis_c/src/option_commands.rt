@@ -30,7 +30,7 @@ use stream_in_place::{EntryPlace, FieldPlace};
 use stream_options::{StreamAddOptions, StreamClaimOptions, StreamReadOptions};
 
 /// The outcome if the options could not be read.
-fn of_unset(unset: Unset) -> Packing
+fn convert_unset(unset: Unset) -> Packing
     ensures memory { unset ≡ Unset.Memory → result ≡ Packing.Memory }
     ensures refused { unset ≡ Unset.Refused → result ≡ Packing.Refused }
 {
@@ -82,7 +82,7 @@ fn write_add(
 {
     match build_add_options(alloc, bytes, settings) {
         Ok(options) => write_fields(alloc, key, id, &options, bytes, fields, out),
-        Err(unset) => of_unset(unset),
+        Err(unset) => convert_unset(unset),
     }
 }
 
@@ -117,7 +117,7 @@ fn write_trim(
 {
     match build_trim_options(alloc, bytes, settings) {
         Ok(options) => write_command(alloc, &xtrim_options(Argument(key), &options), out),
-        Err(unset) => of_unset(unset),
+        Err(unset) => convert_unset(unset),
     }
 }
 
@@ -180,7 +180,7 @@ fn write_claim(
 {
     let options = match build_claim_options(alloc, bytes, settings) {
         Ok(options) => options,
-        Err(unset) => return of_unset(unset),
+        Err(unset) => return convert_unset(unset),
     };
     let ids = match ids_at(alloc, bytes, entries) {
         Ok(ids) => ids,

@@ -34,7 +34,7 @@ pub enum Packing {
 
 impl Packing {
     /// The status code.
-    fn number(self) -> u32
+    fn get_code(self) -> u32
         ensures { result ≡ number self }
     {
         match self {
@@ -49,7 +49,7 @@ impl Packing {
     }
 
     /// The number of bytes that were written or are needed.
-    fn len(self) -> usize
+    fn get_len(self) -> usize
         ensures { result ≡ len_of self }
     {
         match self {
@@ -67,8 +67,8 @@ impl Packing {
         ensures told { result ≡ number self }
         ensures counted { len.new ≡ len_of self }
     {
-        *len = self.len();
-        self.number()
+        *len = self.get_len();
+        self.get_code()
     }
 }
 

@@ -106,7 +106,7 @@ pub enum Records {
 
 impl Records {
     /// The status code of the outcome.
-    fn code(self) -> u32
+    fn get_code(self) -> u32
         ensures { result ≡ records_code self }
     {
         match self {
@@ -117,7 +117,7 @@ impl Records {
     }
 
     /// The values that C receives beside the code.
-    fn found(self) -> RecordsFound
+    fn get_found(self) -> RecordsFound
         ensures { result ≡ records_found self }
     {
         match self {
@@ -146,7 +146,7 @@ impl Records {
         ensures number { result ≡ records_code self }
         ensures beside { found.new ≡ records_found self }
     {
-        *found = self.found();
-        self.code()
+        *found = self.get_found();
+        self.get_code()
     }
 }

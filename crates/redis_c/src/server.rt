@@ -58,7 +58,7 @@ pub enum Reading {
 
 impl Reading {
     /// The status code.
-    fn number(self) -> u32
+    fn get_code(self) -> u32
         ensures { result ≡ reading_number self }
     {
         match self {
@@ -70,7 +70,7 @@ impl Reading {
     }
 
     /// The number of arguments of the options.
-    fn count(self) -> usize
+    fn get_count(self) -> usize
         ensures { result ≡ reading_count self }
     {
         match self {
@@ -84,13 +84,13 @@ impl Reading {
         ensures told { result ≡ reading_number self }
         ensures counted { count.new ≡ reading_count self }
     {
-        *count = self.count();
-        self.number()
+        *count = self.get_count();
+        self.get_code()
     }
 }
 
 /// The outcome if the texts could not be read.
-fn of_unplaced(unplaced: Unplaced) -> Reading
+fn convert_unplaced(unplaced: Unplaced) -> Reading
     ensures memory { unplaced ≡ Unplaced.Memory → result ≡ Reading.Memory }
     ensures outside { unplaced ≡ Unplaced.Outside → result ≡ Reading.Outside }
     ensures unread { reading_number result ≡ 0 → ⊥ }
@@ -102,7 +102,7 @@ fn of_unplaced(unplaced: Unplaced) -> Reading
 }
 
 /// The outcome if nothing was parsed.
-fn of_error(error: SentenceError) -> Reading
+fn convert_error(error: SentenceError) -> Reading
     ensures memory { error ≡ SentenceError.Memory → result ≡ Reading.Memory }
     ensures none { error ≡ SentenceError.NotASentence → result ≡ Reading.NoOptions }
     ensures unread { reading_number result ≡ 0 → ⊥ }
@@ -121,11 +121,11 @@ fn parse_add(alloc: Global, bytes: &[u8], places: &[Span], settings: &mut AddSet
 {
     let args = match texts_at(alloc, bytes, places) {
         Ok(args) => args,
-        Err(unplaced) => return of_unplaced(unplaced),
+        Err(unplaced) => return convert_unplaced(unplaced),
     };
     let (parts, count) = match read_add_parts(alloc, &args) {
         Ok(found) => found,
-        Err(error) => return of_error(error),
+        Err(error) => return convert_error(error),
     };
     *settings = build_add_settings(&parts, places);
     Reading::Options { count }
@@ -156,11 +156,11 @@ fn parse_trim(alloc: Global, bytes: &[u8], places: &[Span], settings: &mut TrimS
 {
     let args = match texts_at(alloc, bytes, places) {
         Ok(args) => args,
-        Err(unplaced) => return of_unplaced(unplaced),
+        Err(unplaced) => return convert_unplaced(unplaced),
     };
     let (parts, count) = match read_trim_parts(alloc, &args) {
         Ok(found) => found,
-        Err(error) => return of_error(error),
+        Err(error) => return convert_error(error),
     };
     *settings = build_trim_settings(&parts, places);
     Reading::Options { count }
@@ -196,11 +196,11 @@ fn parse_claim(
 {
     let args = match texts_at(alloc, bytes, places) {
         Ok(args) => args,
-        Err(unplaced) => return of_unplaced(unplaced),
+        Err(unplaced) => return convert_unplaced(unplaced),
     };
     let (parts, count) = match read_claim_parts(alloc, &args) {
         Ok(found) => found,
-        Err(error) => return of_error(error),
+        Err(error) => return convert_error(error),
     };
     *settings = build_claim_settings(&parts, places);
     Reading::Options { count }
@@ -236,11 +236,11 @@ fn parse_autoclaim(
 {
     let args = match texts_at(alloc, bytes, places) {
         Ok(args) => args,
-        Err(unplaced) => return of_unplaced(unplaced),
+        Err(unplaced) => return convert_unplaced(unplaced),
     };
     let (parts, count) = match read_autoclaim_parts(&args) {
         Ok(found) => found,
-        Err(error) => return of_error(error),
+        Err(error) => return convert_error(error),
     };
     *settings = build_autoclaim_settings(parts);
     Reading::Options { count }
@@ -278,11 +278,11 @@ fn parse_read(
 {
     let args = match texts_at(alloc, bytes, places) {
         Ok(args) => args,
-        Err(unplaced) => return of_unplaced(unplaced),
+        Err(unplaced) => return convert_unplaced(unplaced),
     };
     let (parts, count) = match read_read_parts(&args) {
         Ok(found) => found,
-        Err(error) => return of_error(error),
+        Err(error) => return convert_error(error),
     };
     *group = build_group_place(parts.group, places);
     *settings = build_read_settings(parts);

@@ -119,10 +119,10 @@ impl Address {
         let Some((host, port)) = host_and_port(parts.place) else {
             return Err(AddressError::Host);
         };
-        let port = port_of(port)?;
-        let database = database_of(parts.database)?;
-        let host = host_of(alloc, host)?;
-        let login = login_of(alloc, parts.login)?;
+        let port = parse_port(port)?;
+        let database = parse_database(parts.database)?;
+        let host = parse_host(alloc, host)?;
+        let login = parse_login(alloc, parts.login)?;
         let Settings { protocol, name } = settings_of(alloc, parts.settings)?;
         Ok(Address {
             login,
@@ -151,7 +151,7 @@ fn strip_scheme(text: &[u8]) -> Result<&[u8], AddressError>
 
 /// The given port, or 6379.
 #[tactic(auto, using(crate::proofs::PortLemmas::zero_is_no_port))]
-fn port_of(text: Option<&[u8]>) -> Result<u16, AddressError>
+fn parse_port(text: Option<&[u8]>) -> Result<u16, AddressError>
     ensures { MatchResult result (λ port. IsPort (option_map (λ t. t.now) text.entry) port)
         (λ e. (e ≡ AddressError.Port) × ((n : ℕ) → IsPort (option_map (λ t. t.now) text.entry) n → ⊥)) }
 {
@@ -166,7 +166,7 @@ fn port_of(text: Option<&[u8]>) -> Result<u16, AddressError>
 }
 
 /// The given database, or 0.
-fn database_of(text: Option<&[u8]>) -> Result<u16, AddressError>
+fn parse_database(text: Option<&[u8]>) -> Result<u16, AddressError>
     ensures { MatchResult result (λ database. IsDatabase (option_map (λ t. t.now) text.entry) database)
         (λ e. (e ≡ AddressError.Database) × ((n : ℕ) → IsDatabase (option_map (λ t. t.now) text.entry) n → ⊥)) }
 {
@@ -180,7 +180,7 @@ fn database_of(text: Option<&[u8]>) -> Result<u16, AddressError>
 }
 
 /// The host as a text.
-fn host_of(alloc: Global, host: &[u8]) -> Result<String, AddressError>
+fn parse_host(alloc: Global, host: &[u8]) -> Result<String, AddressError>
     ensures ok { IfOk result (λ text. (string_bytes text ≡ host.now) × IsHost host.now) }
     ensures err { IfErr result (λ e. (e ≡ AddressError.Memory)
         ⊎ ((e ≡ AddressError.Host) × (IsUtf8 host.now → IsHost host.now → ⊥))) }
@@ -195,7 +195,7 @@ fn host_of(alloc: Global, host: &[u8]) -> Result<String, AddressError>
 }
 
 /// The given user and password, if any.
-fn login_of(alloc: Global, text: Option<&[u8]>) -> Result<Option<Login>, AddressError>
+fn parse_login(alloc: Global, text: Option<&[u8]>) -> Result<Option<Login>, AddressError>
     ensures ok { IfOk result (λ login. IsLogin (option_map (λ t. t.now) text.entry)
         (option_map (λ l. (l.user.items, l.password.items)) login)) }
     ensures err { IfErr result (λ e. (e ≡ AddressError.Memory) ⊎ ((e ≡ AddressError.Login)

@@ -3,7 +3,7 @@ ghost use Rattle.std.specs.Prelude.{◌≡◌, ◌==◌, option_map, position};
 ghost use Rattle.redis_client.specs.Cut.{behind, front};
 
 /// The index of the first such byte.
-fn place_of(bytes: &[u8], byte: u8) -> Option<usize>
+fn find_byte(bytes: &[u8], byte: u8) -> Option<usize>
     ensures { result ≡ position (λ b. b == byte) bytes.now }
 {
     bytes.iter().position(|b| *b == byte)
@@ -14,7 +14,7 @@ pub(crate) fn cut(bytes: &[u8], byte: u8) -> (&[u8], Option<&[u8]>)
     ensures front { result.0.now ≡ front byte bytes.now }
     ensures behind { option_map (λ rest. rest.now) result.1 ≡ behind byte bytes.now }
 {
-    match place_of(bytes, byte) {
+    match find_byte(bytes, byte) {
         Some(place) => (&bytes[..place], Some(&bytes[place + 1..])),
         None => (bytes, None),
     }

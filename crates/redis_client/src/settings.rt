@@ -28,16 +28,16 @@ pub(crate) fn settings_of(alloc: Global, text: Option<&[u8]>) -> Result<Settings
         return Ok(none);
     };
     match cut(text, b'&') {
-        (first, None) => with_setting(alloc, none, first),
+        (first, None) => apply_setting(alloc, none, first),
         (first, Some(second)) => {
-            let one = with_setting(alloc, none, first)?;
-            with_setting(alloc, one, second)
+            let one = apply_setting(alloc, none, first)?;
+            apply_setting(alloc, one, second)
         }
     }
 }
 
 /// The settings with this one replaced.
-fn with_setting(
+fn apply_setting(
     alloc: Global,
     mut settings: Settings,
     text: &[u8],
@@ -50,9 +50,9 @@ fn with_setting(
         return Err(AddressError::Setting);
     };
     if key == b"protocol".as_slice() {
-        settings.protocol = protocol_of(value)?;
+        settings.protocol = parse_protocol(value)?;
     } else if key == b"name".as_slice() {
-        settings.name = Some(name_of(alloc, value)?);
+        settings.name = Some(parse_name(alloc, value)?);
     } else {
         return Err(AddressError::Setting);
     }
@@ -60,7 +60,7 @@ fn with_setting(
 }
 
 /// The protocol of this version.
-fn protocol_of(value: &[u8]) -> Result<Protocol, AddressError>
+fn parse_protocol(value: &[u8]) -> Result<Protocol, AddressError>
     ensures { MatchResult result (λ p. protocol_of value.now ≡ Some p)
         (λ e. (e ≡ AddressError.Setting) × (protocol_of value.now ≡ None)) }
 {
@@ -72,7 +72,7 @@ fn protocol_of(value: &[u8]) -> Result<Protocol, AddressError>
 }
 
 /// The name of the connection, percent-decoded. A `&` in it is refused.
-fn name_of(alloc: Global, value: &[u8]) -> Result<Vec<u8>, AddressError>
+fn parse_name(alloc: Global, value: &[u8]) -> Result<Vec<u8>, AddressError>
     ensures ok { IfOk result (λ name. name_of value.now (behind 38 value.now) ≡ Some name.items) }
     ensures err { IfErr result (λ e. (e ≡ AddressError.Memory)
         ⊎ ((e ≡ AddressError.Setting) × (name_of value.now (behind 38 value.now) ≡ None))) }

@@ -92,14 +92,14 @@ pub fn connection_over<S: Read + Write + TimedStream + Drop>(
         (IsTimed S.has_nodelay S.reads_within S.writes_within patience)) }
     ensures cause { IfErr result (λ e. e ≢ ConnectionError.Closed) }
 {
-    match reader_of(&mut stream, patience) {
+    match prepare_reader(&mut stream, patience) {
         Ok(reader) => Ok(Connection::new(alloc, reader, stream, Limits::default())?),
         Err(error) => Err(ConnectionError::Read(error)),
     }
 }
 
 /// The reading end of a stream, after both ends are set.
-fn reader_of<S: Read + Write + TimedStream + Drop>(
+fn prepare_reader<S: Read + Write + TimedStream + Drop>(
     stream: &mut S,
     patience: Duration,
 ) -> io::Result<S>

@@ -84,7 +84,7 @@ pub fn drain<R: Read + Drop, W: Write + Drop, D: LogFile + Drop, T: Clock + Epri
 {
     let mut asked = Asked::Nothing;
     for _turn in 0..u64::MAX {
-        let last = turn(rt, connection, worker, lines, report, dead, wait, asked)?;
+        let last = make_turn(rt, connection, worker, lines, report, dead, wait, asked)?;
         asked = last.asked;
         if until_empty && asked == Asked::New && lines.seen == last.before {
             return Ok(Drained { last });
@@ -94,7 +94,7 @@ pub fn drain<R: Read + Drop, W: Write + Drop, D: LogFile + Drop, T: Clock + Epri
 }
 
 /// Makes one turn: searches for entries to give up, makes one round or two rounds in one write, and counts.
-fn turn<R: Read + Drop, W: Write + Drop, D: LogFile + Drop, T: Clock + Eprint + AllocGlobal>(
+fn make_turn<R: Read + Drop, W: Write + Drop, D: LogFile + Drop, T: Clock + Eprint + AllocGlobal>(
     rt: &T,
     connection: &mut Connection<R, W>,
     worker: &mut Worker,
@@ -184,13 +184,13 @@ fn make_any_round<R: Read + Drop, W: Write + Drop, D: LogFile + Drop>(
     ensures alone { IsTrue alone → IfOk result (λ made. made.acknowledged ≡ false) }
 {
     match wait {
-        Some(wait) => confirmed(alloc, connection, worker, lines, &wait),
-        None => round(alloc, connection, worker, lines, !alone),
+        Some(wait) => make_confirmed_round(alloc, connection, worker, lines, &wait),
+        None => make_round(alloc, connection, worker, lines, !alone),
     }
 }
 
 /// Makes a round after which the worker goes on. Replicas confirm the round before its entries are handled.
-fn confirmed<R: Read + Drop, W: Write + Drop, D: LogFile + Drop>(
+fn make_confirmed_round<R: Read + Drop, W: Write + Drop, D: LogFile + Drop>(
     alloc: Global,
     connection: &mut Connection<R, W>,
     worker: &mut Worker,
@@ -233,7 +233,7 @@ fn explain_unconfirmed(error: RoundError, fault: &Option<Fault>) -> Failure {
 ///
 /// If entries are given up, `together` must be false, since the search for them is between an acknowledgement
 /// and a claim.
-fn round<R: Read + Drop, W: Write + Drop, D: LogFile + Drop>(
+fn make_round<R: Read + Drop, W: Write + Drop, D: LogFile + Drop>(
     alloc: Global,
     connection: &mut Connection<R, W>,
     worker: &mut Worker,
@@ -345,10 +345,10 @@ fn show<R: Read + Drop, W: Write + Drop, T: Eprint + AllocGlobal>(
 
 /// Shows the counts, followed by `more`.
 fn say<T: Eprint, M: fmt::Display>(rt: &T, report: &Report, more: &M) -> Result<(), Failure> {
-    Ok(written(rt, report, more)?)
+    Ok(print_report(rt, report, more)?)
 }
 
-fn written<T: Eprint, M: fmt::Display>(rt: &T, report: &Report, more: &M) -> AnyResult<()> {
+fn print_report<T: Eprint, M: fmt::Display>(rt: &T, report: &Report, more: &M) -> AnyResult<()> {
     eprintln!(rt; "{report}{more}")?;
     Ok(())
 }

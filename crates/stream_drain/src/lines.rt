@@ -84,7 +84,7 @@ impl<D: LogFile + Drop> Lines<D> {
         ensures places { IfOk result (λ lines. IfSome (D.seen file)
             (λ bytes. KnowsPlaces json bytes lines.known)) }
     {
-        let known = ids_of(alloc, &file, json, look_up)?;
+        let known = read_ids(alloc, &file, json, look_up)?;
         Ok(Lines {
             log: LineLog::open(alloc, file)?,
             json,
@@ -214,7 +214,7 @@ impl<D: LogFile + Drop> Handler for Lines<D> {
 }
 
 /// Reads the ids of the lines of a file if `look_up` is true.
-fn ids_of<D: LogFile>(
+fn read_ids<D: LogFile>(
     alloc: Global,
     file: &D,
     json: bool,

@@ -107,14 +107,14 @@ fn end_with<T: Eprint + AllocGlobal>(rt: &T, ended: Result<Drained, Failure>) ->
     let Err(failure) = ended else {
         return Ok(ExitCode::SUCCESS);
     };
-    let text = text_of(rt.alloc(), &failure)?;
+    let text = format_failure(rt.alloc(), &failure)?;
     eprintln!(rt; "Error: {text}")?;
     Ok(ExitCode::FAILURE)
 }
 
 /// Returns the text of a failure: the full error of the server, and advice about it. Each control character
 /// becomes `?`, since it could control a terminal.
-fn text_of(alloc: Global, failure: &Failure) -> Result<String, AllocError> {
+fn format_failure(alloc: Global, failure: &Failure) -> Result<String, AllocError> {
     if let Failure::Other(error) = failure {
         let text = format!(in alloc; "{error:?}")?;
         return mask_controls(alloc, &text, true);
@@ -357,13 +357,13 @@ fn make_search(
 fn make_report(alloc: Global, settings: &Settings, quiet: bool) -> Result<Report> {
     let mut report = Report::new(quiet);
     if !quiet {
-        report.watched = Some(watched(alloc, settings)?);
+        report.watched = Some(make_watched(alloc, settings)?);
     }
     Ok(report)
 }
 
 /// Returns the group whose backlog is shown.
-fn watched(alloc: Global, settings: &Settings) -> Result<Watched, AllocError> {
+fn make_watched(alloc: Global, settings: &Settings) -> Result<Watched, AllocError> {
     let key = String::from_str(alloc, settings.key())?;
     let group = String::from_str(alloc, settings.group())?;
     Ok(Watched { key, group })

@@ -57,9 +57,9 @@ pub fn options_of(alloc: Global, words: &[String]) -> Result<Options, Error>
     ensures least { IfOk result (λ _. 4 ≤ length words.now) }
     ensures said { IfOk result (λ options. AreOptionsOf (map string_bytes words.now) options) }
 {
-    let mut command = command_of(alloc)?;
+    let mut command = make_command(alloc)?;
     let matches = matches_of(alloc, &mut command, words, 4)?;
-    let options = options_in(alloc, &mut command, &matches)?;
+    let options = parse_options(alloc, &mut command, &matches)?;
     let line = Line::read::<OptionArity>(alloc, words)?;
     if !says(alloc, &line, &matches, &options)? {
         return Err(refused(alloc, &mut command, &"the words do not say what was read"));
@@ -68,7 +68,7 @@ pub fn options_of(alloc: Global, words: &[String]) -> Result<Options, Error>
 }
 
 /// Returns the options that clap found in the arguments.
-fn options_in(
+fn parse_options(
     alloc: Global,
     command: &mut Command<'_>,
     matches: &ArgMatches<'_>,
@@ -78,7 +78,7 @@ fn options_in(
 {
     let settings = settings_of(alloc, command, matches, &COUNT)?;
     let dead = give_up_of(alloc, command, matches)?;
-    let wait = wait_beside(alloc, command, matches, dead.is_some())?;
+    let wait = parse_wait(alloc, command, matches, dead.is_some())?;
     Ok(Options {
         settings,
         path: String::from_str(alloc, word_of(matches, "FILE"))?,
@@ -91,7 +91,7 @@ fn options_in(
     })
 }
 
-fn command_of<'a>(alloc: Global) -> Result<Command<'a>, AllocError> {
+fn make_command<'a>(alloc: Global) -> Result<Command<'a>, AllocError> {
     let about = "Drains a stream for one consumer of a group into a file.";
     let command = command(alloc, "stream_drain", about)
         .arg(name(alloc, "KEY", "The stream"))?
@@ -103,10 +103,10 @@ fn command_of<'a>(alloc: Global) -> Result<Command<'a>, AllocError> {
             "The file, to which a line for each entry is added",
         ))?
         .arg(from(alloc))?;
-    with_flags(alloc, with_numbers(alloc, command)?)
+    add_flags(alloc, add_numbers(alloc, command)?)
 }
 
-fn with_numbers<'a>(alloc: Global, command: Command<'a>) -> Result<Command<'a>, AllocError> {
+fn add_numbers<'a>(alloc: Global, command: Command<'a>) -> Result<Command<'a>, AllocError> {
     command
         .arg(COUNT.arg(alloc))?
         .arg(BLOCK.arg(alloc))?
@@ -114,7 +114,7 @@ fn with_numbers<'a>(alloc: Global, command: Command<'a>) -> Result<Command<'a>, 
         .arg(EVERY.arg(alloc))
 }
 
-fn with_flags<'a>(alloc: Global, command: Command<'a>) -> Result<Command<'a>, AllocError> {
+fn add_flags<'a>(alloc: Global, command: Command<'a>) -> Result<Command<'a>, AllocError> {
     let help =
         "Entries that were delivered so many times, 1 at least, go to this stream of dead letters";
     command
@@ -132,7 +132,7 @@ fn with_flags<'a>(alloc: Global, command: Command<'a>) -> Result<Command<'a>, Al
 
 /// Returns the value of `--wait`: the number of replicas that must confirm each command, and how long the
 /// program waits for them. Dead letters are not confirmed, so `--wait` together with `--dead` is an error.
-fn wait_beside(
+fn parse_wait(
     alloc: Global,
     command: &mut Command<'_>,
     matches: &ArgMatches<'_>,

@@ -112,7 +112,7 @@ fn find_id(alloc: Global, line: &[u8], json: bool) -> Result<Option<String>, All
 fn read_id(alloc: Global, id: &[u8]) -> Result<Option<String>, AllocError>
     ensures { IfOk result (λ o. IfSome o (λ text. string_bytes text ≡ id.now)) }
 {
-    if of_id(id) < id.len() || !id.contains(&b'-') {
+    if count_id_bytes(id) < id.len() || !id.contains(&b'-') {
         return Ok(None);
     }
     match str::from_utf8(id) {
@@ -128,7 +128,7 @@ fn find_id_in_json(line: &[u8]) -> Option<&[u8]>
 {
     let head = line.get(..7)?;
     let rest = line.get(7..)?;
-    let len = of_id(rest);
+    let len = count_id_bytes(rest);
     let id = rest.get(..len)?;
     let behind = rest.get(len..)?;
     let next = behind.get(..12)?;
@@ -138,7 +138,7 @@ fn find_id_in_json(line: &[u8]) -> Option<&[u8]>
 }
 
 /// Returns the number of digits and hyphens at the start of the text.
-fn of_id(text: &[u8]) -> usize
+fn count_id_bytes(text: &[u8]) -> usize
     ensures within { result ≤ length text.now }
     ensures all { IsTrue (list_all is_of_id (take result text.now)) }
 {

@@ -40,15 +40,15 @@ pub fn what_is_at<D: LogFile + Drop>(
 {
     let len = line.len().max(id.len() + AROUND) + 2;
     let read = log.bytes_at(alloc, at.saturating_sub(1), len)?;
-    match begun(&read, at) {
-        Some(text) => Ok(found_in(text, line, id, json)),
+    match find_line_at(&read, at) {
+        Some(text) => Ok(compare_text(text, line, id, json)),
         None => Ok(There::Neither),
     }
 }
 
 /// Returns the text at the offset `at`, if a line begins there. `bytes` start one byte before `at`, or at 0 if
 /// `at` is 0.
-fn begun(bytes: &[u8], at: usize) -> Option<&[u8]>
+fn find_line_at(bytes: &[u8], at: usize) -> Option<&[u8]>
     ensures { option_map (λ text. text.now) result ≡ begun at bytes.now }
 {
     if at == 0 {
@@ -61,7 +61,7 @@ fn begun(bytes: &[u8], at: usize) -> Option<&[u8]>
 }
 
 /// Compares the start of the text with the line, and with the start of a line of `id`.
-fn found_in(text: &[u8], line: &[u8], id: &[u8], json: bool) -> There
+fn compare_text(text: &[u8], line: &[u8], id: &[u8], json: bool) -> There
     ensures { result ≡ found_in json id.now line.now (Some text.now) }
 {
     if has_line(text, line) {

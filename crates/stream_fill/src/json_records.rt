@@ -124,11 +124,11 @@ fn find_pairs<'m, 'a>(members: &'m [(&str, Value<'a>)]) -> Option<&'m [Value<'a>
     if fields.0 != "fields" {
         return None;
     }
-    items_of(&fields.1)
+    find_items(&fields.1)
 }
 
 /// Returns the items of an array, or `None` if the value is not an array.
-fn items_of<'m, 'a>(value: &'m Value<'a>) -> Option<&'m [Value<'a>]>
+fn find_items<'m, 'a>(value: &'m Value<'a>) -> Option<&'m [Value<'a>]>
     ensures { option_map (λ items. items_view items.now) result ≡ as_array (value_view value.now) }
 {
     match value {

@@ -92,15 +92,15 @@ fn read_base<D: LogFile>(alloc: Global, file: &D, key: &str) -> Result<Option<u6
 {
     let len = file.len()?;
     let bytes = file.read_at(alloc, 0, len)?;
-    base_in(alloc, &bytes, key)
+    parse_base(alloc, &bytes, key)
 }
 
 /// Parses the base in `bytes`. Returns `None` if they are only the beginning of such a line.
-fn base_in(alloc: Global, bytes: &[u8], key: &str) -> Result<Option<u64>, BaseError>
+fn parse_base(alloc: Global, bytes: &[u8], key: &str) -> Result<Option<u64>, BaseError>
     ensures ok { IfOk result (Keeps key.now bytes.now) }
     ensures err { IfErr result (IsUnkept key.now bytes.now) }
 {
-    let Some(base) = number_at_front(bytes) else {
+    let Some(base) = parse_front_number(bytes) else {
         return Err(BaseError::OtherFile);
     };
     let line = format_base(alloc, key, base)?;
@@ -115,21 +115,21 @@ fn base_in(alloc: Global, bytes: &[u8], key: &str) -> Result<Option<u64>, BaseEr
 
 /// Parses the number at the start of `bytes`, up to a space or the end. Returns 0 if there are no bytes.
 #[tactic(auto, using(crate::proofs::BaseLemmas::of_nothing, crate::proofs::BaseLemmas::before_space, crate::proofs::BaseLemmas::without_space))]
-fn number_at_front(bytes: &[u8]) -> Option<u64>
+fn parse_front_number(bytes: &[u8]) -> Option<u64>
     ensures { (n : ℕ) → n < 2 ^ 64 → BeginsWithNumber bytes.now n → result ≡ Some n }
 {
     if bytes.is_empty() {
         return Some(0);
     }
     match split_at_byte(bytes, b' ') {
-        Some((digits, _rest)) => number_of(digits),
-        None => number_of(bytes),
+        Some((digits, _rest)) => parse_number(digits),
+        None => parse_number(bytes),
     }
 }
 
 /// Parses `digits` as a number.
 #[tactic(auto, using(crate::proofs::BaseLemmas::not_text, crate::proofs::BaseLemmas::read_back))]
-fn number_of(digits: &[u8]) -> Option<u64>
+fn parse_number(digits: &[u8]) -> Option<u64>
     ensures { (n : ℕ) → n < 2 ^ 64 → digits.now ≡ decimal n → result ≡ Some n }
 {
     let Ok(text) = str::from_utf8(digits) else {

@@ -45,7 +45,7 @@ pub fn find_settings<
             kept: None,
         });
     }
-    let kept = kept_path(alloc, path)?;
+    let kept = make_kept_path(alloc, path)?;
     let mut file = open_kept(files, kept.as_str())?;
     let settings = use_kept_base(alloc, settings, &mut file, connection, kept.as_str())?;
     Ok(Based {
@@ -55,7 +55,7 @@ pub fn find_settings<
 }
 
 /// Returns the path of the file with the base: FILE.onto.
-fn kept_path(alloc: Global, path: &str) -> Result<String, AllocError>
+fn make_kept_path(alloc: Global, path: &str) -> Result<String, AllocError>
     ensures { IfOk result (λ kept. string_bytes kept ≡ path.now ++ codes ".onto") }
 {
     let mut kept = String::from_str(alloc, path)?;

@@ -63,9 +63,9 @@ pub fn options_of(alloc: Global, words: &[String]) -> Result<Options, Error>
     ensures least { IfOk result (λ _. 2 ≤ length words.now) }
     ensures said { IfOk result (λ options. AreOptionsOf (map string_bytes words.now) options) }
 {
-    let mut command = command_of(alloc)?;
+    let mut command = make_command(alloc)?;
     let matches = matches_of(alloc, &mut command, words, 2)?;
-    let options = options_in(alloc, &mut command, &matches)?;
+    let options = parse_options(alloc, &mut command, &matches)?;
     let line = Line::read::<OptionArity>(alloc, words)?;
     if !says(alloc, &line, &matches, &options)? {
         return Err(refused(alloc, &mut command, &"the words do not say what was read"));
@@ -74,27 +74,27 @@ pub fn options_of(alloc: Global, words: &[String]) -> Result<Options, Error>
 }
 
 /// Returns the options that clap found in the arguments.
-fn options_in(
+fn parse_options(
     alloc: Global,
     command: &mut Command<'_>,
     matches: &ArgMatches<'_>,
 ) -> Result<Options, Error>
     ensures { IfOk result (λ options. AreOptions (found_of matches.now) options) }
 {
-    let settings = settings_of(alloc, command, matches)?;
-    let trim = trim_of(alloc, command, matches)?;
+    let settings = parse_settings(alloc, command, matches)?;
+    let trim = parse_strategy(alloc, command, matches)?;
     let wait = confirmation_of(alloc, command, matches)?;
     Ok(Options {
         settings,
         trim,
         path: String::from_str(alloc, word_of(matches, "FILE"))?,
-        form: read_form(alloc, matches)?,
+        form: parse_form(alloc, matches)?,
         is_onto: matches.get_flag("onto"),
         wait,
     })
 }
 
-fn command_of<'a>(alloc: Global) -> Result<Command<'a>, AllocError> {
+fn make_command<'a>(alloc: Global) -> Result<Command<'a>, AllocError> {
     let about = "Fills a stream with the lines of a file, each once and in order.";
     let field = "The name of the one field of each record, whose value is the line";
     let json = "Each line is an object of texts, or a line of stream_drain --json";
@@ -117,7 +117,7 @@ fn command_of<'a>(alloc: Global) -> Result<Command<'a>, AllocError> {
 }
 
 /// Returns the form of the lines.
-fn read_form(alloc: Global, matches: &ArgMatches<'_>) -> Result<Form, AllocError>
+fn parse_form(alloc: Global, matches: &ArgMatches<'_>) -> Result<Form, AllocError>
     ensures { IfOk result (λ form. HasForm (found_of matches.now) form) }
 {
     if matches.get_flag("json") {
@@ -128,7 +128,7 @@ fn read_form(alloc: Global, matches: &ArgMatches<'_>) -> Result<Form, AllocError
 }
 
 /// Returns the settings: the values of KEY, `--base` and `--batch`.
-fn settings_of(
+fn parse_settings(
     alloc: Global,
     command: &mut Command<'_>,
     matches: &ArgMatches<'_>,
@@ -155,19 +155,19 @@ pub fn apply_trim(settings: Settings, trim: Option<StreamTrimStrategy>) -> Setti
 }
 
 /// Returns the trimming of each XADD, if the arguments specify any.
-fn trim_of(
+fn parse_strategy(
     alloc: Global,
     command: &mut Command<'_>,
     matches: &ArgMatches<'_>,
 ) -> Result<Option<StreamTrimStrategy>, Error>
     ensures { IfOk result (λ trim. Trims (found_of matches.now) trim) }
 {
-    let mode = mode_of(matches);
-    read_trim(alloc, command, matches, mode)
+    let mode = parse_mode(matches);
+    parse_trim(alloc, command, matches, mode)
 }
 
 /// Returns the trimming mode, exact or approximate.
-fn mode_of(matches: &ArgMatches<'_>) -> StreamTrimmingMode
+fn parse_mode(matches: &ArgMatches<'_>) -> StreamTrimmingMode
     ensures { HasMode (found_of matches.now) result }
 {
     if matches.get_flag("approximate") {
@@ -178,7 +178,7 @@ fn mode_of(matches: &ArgMatches<'_>) -> StreamTrimmingMode
 }
 
 /// Returns the trimming of each XADD in this mode, by `--maxlen` or `--minid`, if one of them is given.
-fn read_trim(
+fn parse_trim(
     alloc: Global,
     command: &mut Command<'_>,
     matches: &ArgMatches<'_>,

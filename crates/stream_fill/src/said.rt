@@ -94,11 +94,16 @@ fn says_trim(
     let lengths = line.values_of(alloc, "--maxlen")?;
     let ids = line.values_of(alloc, "--minid")?;
     let is_about = line.has("--approximate");
-    Ok(trims(trim, is_about, last_value(&lengths), last_value(&ids)))
+    Ok(is_trim(
+        trim,
+        is_about,
+        find_last_value(&lengths),
+        find_last_value(&ids),
+    ))
 }
 
 /// Returns the last value, or `None` if there are no values.
-fn last_value<'a>(values: &[&'a str]) -> Option<&'a str>
+fn find_last_value<'a>(values: &[&'a str]) -> Option<&'a str>
     ensures { option_map (λ v. v.now) result ≡ last_value (map (λ v. v.now) values.now) }
 {
     values.last().copied()
@@ -106,7 +111,7 @@ fn last_value<'a>(values: &[&'a str]) -> Option<&'a str>
 
 /// Whether `trim` keeps `length` entries, or else the entries from `id` on. Without both, whether there is no
 /// trimming.
-fn trims(
+fn is_trim(
     trim: &Option<StreamTrimStrategy>,
     is_about: bool,
     length: Option<&str>,

@@ -74,11 +74,11 @@ pub fn drain<
 {
     let mut asked = Asked::Nothing;
     for _ in 0..u64::MAX {
-        let last = turn(rt, connection, worker, jobs, report, dead, asked)?;
+        let last = make_turn(rt, connection, worker, jobs, report, dead, asked)?;
         asked = last.asked;
         if jobs.is_over() {
             settle(rt.alloc(), connection, worker, jobs, report)?;
-            ended(rt.alloc(), jobs)?;
+            check_stop(rt.alloc(), jobs)?;
             return Ok(Drained { last });
         }
         if until_empty && asked == Asked::New && jobs.seen == last.before {
@@ -91,7 +91,7 @@ pub fn drain<
 /// Makes one turn. Searches for entries to give up, makes one round or two rounds in one write, and sends the
 /// entries that the replies add. Then shows the child's texts, gives up the entries with the reply `dead`, and
 /// counts.
-fn turn<
+fn make_turn<
     R: Read + Drop,
     W: Write + Drop,
     C: SteadyRead + Drop,
@@ -129,7 +129,7 @@ fn turn<
         dead,
         asked,
     )?;
-    let made = round(rt.alloc(), connection, worker, jobs, dead.is_none())?;
+    let made = make_round(rt.alloc(), connection, worker, jobs, dead.is_none())?;
     send_added(rt.alloc(), connection, jobs)?;
     let notes = jobs.take_notes(rt.alloc());
     show_notes(rt, &notes)?;
@@ -248,7 +248,7 @@ fn give_up<R: Read + Drop, W: Write + Drop>(
 ///
 /// If entries are given up, `together` must be false, since the search for them is between an acknowledgement
 /// and a claim.
-fn round<R: Read + Drop, W: Write + Drop, C: SteadyRead + Drop, D: SteadyWrite + Drop>(
+fn make_round<R: Read + Drop, W: Write + Drop, C: SteadyRead + Drop, D: SteadyWrite + Drop>(
     alloc: Global,
     connection: &mut Connection<R, W>,
     worker: &mut Worker,
@@ -317,7 +317,7 @@ fn settle<R: Read + Drop, W: Write + Drop, C: SteadyRead + Drop, D: SteadyWrite 
 }
 
 /// Returns the error with which the handler stopped. Returns `Ok` if the child replied `stop`.
-fn ended<C: SteadyRead + Drop, D: SteadyWrite + Drop>(
+fn check_stop<C: SteadyRead + Drop, D: SteadyWrite + Drop>(
     alloc: Global,
     jobs: &Jobs<C, D>,
 ) -> Result<(), Failure>

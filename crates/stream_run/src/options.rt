@@ -48,9 +48,9 @@ pub fn options_of(alloc: Global, words: &[String]) -> Result<Options, Error>
     ensures least { IfOk result (λ _. 3 ≤ length words.now) }
     ensures said { IfOk result (λ options. AreOptionsOf (map string_bytes words.now) options) }
 {
-    let mut command = command_of(alloc)?;
+    let mut command = make_command(alloc)?;
     let matches = matches_of(alloc, &mut command, words, 3)?;
-    let options = options_in(alloc, &mut command, &matches)?;
+    let options = parse_options(alloc, &mut command, &matches)?;
     let line = Line::read::<OptionArity>(alloc, words)?;
     if !says(alloc, &line, &matches, &options)? {
         return Err(refused(alloc, &mut command, &"the words do not say what was read"));
@@ -59,7 +59,7 @@ pub fn options_of(alloc: Global, words: &[String]) -> Result<Options, Error>
 }
 
 /// Returns the options that clap found in the arguments.
-fn options_in(
+fn parse_options(
     alloc: Global,
     command: &mut Command<'_>,
     matches: &ArgMatches<'_>,
@@ -76,17 +76,17 @@ fn options_in(
     })
 }
 
-fn command_of<'a>(alloc: Global) -> Result<Command<'a>, AllocError> {
+fn make_command<'a>(alloc: Global) -> Result<Command<'a>, AllocError> {
     let about = "Hands each entry of a stream to another program, for one consumer of a group.";
     let command = command(alloc, "stream_run", about)
         .arg(name(alloc, "KEY", "The stream"))?
         .arg(name(alloc, "GROUP", "The group of consumers"))?
         .arg(name(alloc, "CONSUMER", "The name of the consumer"))?
         .arg(from(alloc))?;
-    with_flags(alloc, with_pipes(alloc, with_numbers(alloc, command)?)?)
+    add_flags(alloc, add_pipes(alloc, add_numbers(alloc, command)?)?)
 }
 
-fn with_pipes<'a>(alloc: Global, command: Command<'a>) -> Result<Command<'a>, AllocError> {
+fn add_pipes<'a>(alloc: Global, command: Command<'a>) -> Result<Command<'a>, AllocError> {
     let lines = "The pipe that the other program reads: a line for each entry";
     let replies = "The pipe that the other program writes: a line for each of those";
     command
@@ -94,7 +94,7 @@ fn with_pipes<'a>(alloc: Global, command: Command<'a>) -> Result<Command<'a>, Al
         .arg(text(alloc, "replies", "PATH", replies).default_value(REPLIES))
 }
 
-fn with_numbers<'a>(alloc: Global, command: Command<'a>) -> Result<Command<'a>, AllocError> {
+fn add_numbers<'a>(alloc: Global, command: Command<'a>) -> Result<Command<'a>, AllocError> {
     command
         .arg(COUNT.arg(alloc))?
         .arg(BLOCK.arg(alloc))?
@@ -102,7 +102,7 @@ fn with_numbers<'a>(alloc: Global, command: Command<'a>) -> Result<Command<'a>, 
         .arg(EVERY.arg(alloc))
 }
 
-fn with_flags<'a>(alloc: Global, command: Command<'a>) -> Result<Command<'a>, AllocError> {
+fn add_flags<'a>(alloc: Global, command: Command<'a>) -> Result<Command<'a>, AllocError> {
     let help =
         "Entries that were delivered so many times, 1 at least, go to this stream of dead letters";
     command.arg(dead(alloc, help))?.arg(flag(

@@ -68,7 +68,7 @@ pub fn drain<R: Read + Drop, W: Write + Drop, T: Table + Drop, P: Eprint + Alloc
 {
     let mut asked = Asked::Nothing;
     for _ in 0..u64::MAX {
-        let last = turn(rt, connection, worker, rows, counts, dead, asked)?;
+        let last = make_turn(rt, connection, worker, rows, counts, dead, asked)?;
         asked = last.asked;
         if until_empty && asked == Asked::New && rows.seen == last.before {
             return Ok(Drained { last });
@@ -78,7 +78,7 @@ pub fn drain<R: Read + Drop, W: Write + Drop, T: Table + Drop, P: Eprint + Alloc
 }
 
 /// Makes one turn: searches for entries to give up, makes one round or two rounds in one write, and counts.
-fn turn<R: Read + Drop, W: Write + Drop, T: Table + Drop, P: Eprint + AllocGlobal>(
+fn make_turn<R: Read + Drop, W: Write + Drop, T: Table + Drop, P: Eprint + AllocGlobal>(
     rt: &P,
     connection: &mut Connection<R, W>,
     worker: &mut Worker,
@@ -111,7 +111,7 @@ fn turn<R: Read + Drop, W: Write + Drop, T: Table + Drop, P: Eprint + AllocGloba
         asked,
         rows.done > rows.committed,
     )?;
-    let made = round(rt.alloc(), connection, worker, rows, dead.is_none())?;
+    let made = make_round(rt.alloc(), connection, worker, rows, dead.is_none())?;
     if made.acknowledged || made.round.asked == Asked::Acknowledgement {
         counts.count(rows.committed);
     }
@@ -167,7 +167,7 @@ fn say_left<P: Eprint + AllocGlobal>(
 ///
 /// If entries are given up, `together` must be false, since the search for them is between an acknowledgement
 /// and a claim.
-fn round<R: Read + Drop, W: Write + Drop, T: Table + Drop>(
+fn make_round<R: Read + Drop, W: Write + Drop, T: Table + Drop>(
     alloc: Global,
     connection: &mut Connection<R, W>,
     worker: &mut Worker,

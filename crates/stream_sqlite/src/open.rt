@@ -54,7 +54,7 @@ impl Open<FileTable, FileOutbox> for HostRuntime {
         ensures { IfOk result (λ table. IsFormFor name.now columns.now table.form) }
     {
         warn_of_log(self, path)?;
-        open_table(self, path, form_of(self.alloc(), name, columns)?)
+        open_table(self, path, make_form(self.alloc(), name, columns)?)
     }
 
     fn with_outbox(&self, path: &str, table: FileTable) -> Result<FileOutbox> {
@@ -105,7 +105,7 @@ fn open_table(rt: &HostRuntime, path: &str, form: Form) -> Result<FileTable>
 
 /// Returns the statements of the table `name` with these columns. If there are no columns, the table has one
 /// text.
-fn form_of(alloc: Global, name: &str, columns: &[Column]) -> Result<Form>
+fn make_form(alloc: Global, name: &str, columns: &[Column]) -> Result<Form>
     ensures { IfOk result (IsFormFor name.now columns.now) }
 {
     if !columns.is_empty() {

@@ -52,9 +52,9 @@ pub fn options_of(alloc: Global, words: &[String]) -> Result<Options, Error>
     ensures least { IfOk result (λ _. 4 ≤ length words.now) }
     ensures said { IfOk result (λ options. AreOptionsOf (map string_bytes words.now) options) }
 {
-    let mut command = command_of(alloc)?;
+    let mut command = make_command(alloc)?;
     let matches = matches_of(alloc, &mut command, words, 4)?;
-    let options = options_in(alloc, &mut command, &matches)?;
+    let options = parse_options(alloc, &mut command, &matches)?;
     let line = Line::read::<OptionArity>(alloc, words)?;
     if !says(alloc, &line, &matches, &options)? {
         return Err(refused(alloc, &mut command, &"the words do not say what was read"));
@@ -63,7 +63,7 @@ pub fn options_of(alloc: Global, words: &[String]) -> Result<Options, Error>
 }
 
 /// Returns the options that clap found in the arguments.
-fn options_in(
+fn parse_options(
     alloc: Global,
     command: &mut Command<'_>,
     matches: &ArgMatches<'_>,
@@ -71,10 +71,10 @@ fn options_in(
     ensures ok { IfOk result (λ options. AreOptions (found_of matches.now) options) }
 {
     let settings = settings_of(alloc, command, matches, &COUNT)?;
-    let table = table_of(alloc, command, matches)?;
-    let columns = columns_of(alloc, command, matches)?;
-    let forward = forward_of(alloc, command, matches)?;
-    let dead = dead_of(alloc, command, matches)?;
+    let table = parse_table(alloc, command, matches)?;
+    let columns = parse_columns(alloc, command, matches)?;
+    let forward = parse_forward(alloc, command, matches)?;
+    let dead = parse_dead(alloc, command, matches)?;
     Ok(Options {
         settings,
         path: String::from_str(alloc, word_of(matches, "FILE"))?,
@@ -86,7 +86,7 @@ fn options_in(
     })
 }
 
-fn command_of<'a>(alloc: Global) -> Result<Command<'a>, AllocError> {
+fn make_command<'a>(alloc: Global) -> Result<Command<'a>, AllocError> {
     let about = "Drains a stream for one consumer of a group into a table of a SQLite file.";
     let command = command(alloc, "stream_sqlite", about)
         .arg(name(alloc, "KEY", "The stream"))?
@@ -98,10 +98,10 @@ fn command_of<'a>(alloc: Global) -> Result<Command<'a>, AllocError> {
             "The file of SQLite, which is made if it is missing",
         ))?
         .arg(from(alloc))?;
-    with_rest(alloc, command)
+    add_rest(alloc, command)
 }
 
-fn with_rest<'a>(alloc: Global, command: Command<'a>) -> Result<Command<'a>, AllocError> {
+fn add_rest<'a>(alloc: Global, command: Command<'a>) -> Result<Command<'a>, AllocError> {
     let columns =
         "Its columns, as item:text,pieces:integer,photo:blob?; without them the fields are one text";
     command
@@ -112,7 +112,7 @@ fn with_rest<'a>(alloc: Global, command: Command<'a>) -> Result<Command<'a>, All
         .arg(dead(alloc, DEAD_HELP))?
         .arg(text(alloc, "table", "NAME", "The name of the table").default_value(TABLE))?
         .arg(text(alloc, "columns", "LIST", columns))?
-        .arg(forward(alloc))?
+        .arg(make_forward_arg(alloc))?
         .arg(flag(
             alloc,
             "until-empty",
@@ -121,7 +121,7 @@ fn with_rest<'a>(alloc: Global, command: Command<'a>) -> Result<Command<'a>, All
 }
 
 /// The option `--forward`.
-fn forward<'a>(alloc: Global) -> Arg<'a> {
+fn make_forward_arg<'a>(alloc: Global) -> Arg<'a> {
     let help =
         "Sends the entries on to this stream, each under its own id, after they are committed";
     text(alloc, "forward", "TARGET", help).value_parser(ValueParser::NonEmptyString)
@@ -129,7 +129,7 @@ fn forward<'a>(alloc: Global) -> Arg<'a> {
 
 /// Returns the columns of a list such as `item:text,pieces:integer,photo:blob?`, or no columns if there is no
 /// list.
-fn columns_of(
+fn parse_columns(
     alloc: Global,
     command: &mut Command<'_>,
     matches: &ArgMatches<'_>,
@@ -141,7 +141,7 @@ fn columns_of(
         return Ok(columns);
     };
     for part in list.split(',') {
-        let column = column_of(alloc, command, part)?;
+        let column = parse_column(alloc, command, part)?;
         if is_taken(&columns, &column.name) {
             let reason = "another column has this name";
             return Err(refused_value(alloc, command, &column.name, COLUMNS, reason));
@@ -165,7 +165,7 @@ const DEAD_HELP: &str =
 
 /// Returns the name of the table. A name that begins with `sqlite_` is an error, since the database reserves
 /// such names.
-fn table_of(
+fn parse_table(
     alloc: Global,
     command: &mut Command<'_>,
     matches: &ArgMatches<'_>,
@@ -186,7 +186,7 @@ fn table_of(
 const OWN: &str = "sqlite_";
 
 /// Parses a column: the name, and the kind of the values. With a question mark a row may have no value.
-fn column_of(alloc: Global, command: &mut Command<'_>, part: &str) -> Result<Column, Error> {
+fn parse_column(alloc: Global, command: &mut Command<'_>, part: &str) -> Result<Column, Error> {
     let Some((name, kind)) = part.rsplit_once(':') else {
         let reason = "a column is NAME:text, NAME:integer or NAME:blob";
         return Err(refused_value(alloc, command, part, COLUMNS, reason));
@@ -197,12 +197,12 @@ fn column_of(alloc: Global, command: &mut Command<'_>, part: &str) -> Result<Col
     };
     Ok(Column {
         name: String::from_str(alloc, name)?,
-        kind: kind_of(alloc, command, kind)?,
+        kind: parse_kind(alloc, command, kind)?,
         optional,
     })
 }
 
-fn kind_of(alloc: Global, command: &mut Command<'_>, kind: &str) -> Result<Kind, Error> {
+fn parse_kind(alloc: Global, command: &mut Command<'_>, kind: &str) -> Result<Kind, Error> {
     match kind {
         "text" => Ok(Kind::Text),
         "integer" => Ok(Kind::Integer),
@@ -216,7 +216,7 @@ fn kind_of(alloc: Global, command: &mut Command<'_>, kind: &str) -> Result<Kind,
 
 /// Returns the stream that entries are forwarded to, if one is given. KEY is an error. With `--forward` the
 /// table `outbox` is an error too.
-fn forward_of(
+fn parse_forward(
     alloc: Global,
     command: &mut Command<'_>,
     matches: &ArgMatches<'_>,
@@ -240,7 +240,7 @@ fn forward_of(
 
 /// Returns the value of `--dead`, if it is given: the number of deliveries after which entries are given up,
 /// and the stream for them. The stream must be neither KEY nor TARGET.
-fn dead_of(
+fn parse_dead(
     alloc: Global,
     command: &mut Command<'_>,
     matches: &ArgMatches<'_>,

@@ -72,7 +72,7 @@ fn says_columns(alloc: Global, line: &Line<'_>, columns: &[Column]) -> Result<bo
         ≡ columns_of (last_given (said (codes "--columns") (texts_of line.now)))) }
 {
     let values = line.values_of(alloc, "--columns")?;
-    match last_given(&values) {
+    match find_last_value(&values) {
         Some(list) => Ok(lists(list, columns)),
         None => Ok(columns.is_empty()),
     }
@@ -88,7 +88,7 @@ fn says_forward(
         ≡ last_given (said (codes "--forward") (texts_of line.now))) }
 {
     let values = line.values_of(alloc, "--forward")?;
-    Ok(is_target(last_given(&values), forward))
+    Ok(is_target(find_last_value(&values), forward))
 }
 
 /// Whether `forward` is the stream `said`, or both are `None`.
@@ -103,7 +103,7 @@ fn is_target(said: Option<&str>, forward: &Option<String>) -> bool
 }
 
 /// Returns the last value, or `None` if there are no values.
-fn last_given<'a>(values: &[&'a str]) -> Option<&'a str>
+fn find_last_value<'a>(values: &[&'a str]) -> Option<&'a str>
     ensures { option_map (λ text. text.now) result ≡ last_given (map (λ v. v.now) values.now) }
 {
     match values.last() {
@@ -135,29 +135,29 @@ fn lists(list: &str, columns: &[Column]) -> bool
 fn is_column(part: &str, column: &Column) -> bool
     ensures { IsTrue result → column_in part.now ≡ Some (shape_of column.now) }
 {
-    match kind_after(part, &column.name) {
-        Some(kind) => kind == kind_word(column.kind, column.optional),
+    match find_kind(part, &column.name) {
+        Some(kind) => kind == format_kind(column.kind, column.optional),
         None => false,
     }
 }
 
 /// Returns the text after `name` and a colon, if the part begins with them.
-fn kind_after<'a>(part: &'a str, name: &str) -> Option<&'a str>
+fn find_kind<'a>(part: &'a str, name: &str) -> Option<&'a str>
     ensures { IfSome result (λ kind. part.now ≡ name.now ++ 58 ∷ kind.now) }
 {
-    let rest = after(part, name)?;
-    after(rest, ":")
+    let rest = strip_front(part, name)?;
+    strip_front(rest, ":")
 }
 
 /// Returns the text after `front`, if the text begins with it.
-fn after<'a>(text: &'a str, front: &str) -> Option<&'a str>
+fn strip_front<'a>(text: &'a str, front: &str) -> Option<&'a str>
     ensures { IfSome result (λ rest. text.now ≡ front.now ++ rest.now) }
 {
     text.strip_prefix(front)
 }
 
 /// Returns the word for a kind, with a question mark if a row may have no value.
-fn kind_word(kind: Kind, optional: bool) -> &'static str
+fn format_kind(kind: Kind, optional: bool) -> &'static str
     ensures kind { kind_in result.now ≡ Some (kind, optional) }
     ensures whole { at_last_colon result.now ≡ None }
 {

@@ -71,13 +71,13 @@ pub fn figures_of(
         key: String::from_str(alloc, key)?,
         length: stream.length,
         last_id: stream.last_generated_id.clone()?,
-        last_time: time_of(&stream.last_generated_id),
-        groups: groups_of(alloc, &stream.groups, now)?,
+        last_time: parse_time(&stream.last_generated_id),
+        groups: compute_groups(alloc, &stream.groups, now)?,
     })
 }
 
 /// Returns the figures of the groups, in order.
-fn groups_of(
+fn compute_groups(
     alloc: Global,
     groups: &[StreamInfoFullGroup],
     now: usize,
@@ -87,13 +87,13 @@ fn groups_of(
 {
     let mut list = Vec::new(alloc);
     for group in groups {
-        list.push(group_of(alloc, group, now)?)?;
+        list.push(compute_group(alloc, group, now)?)?;
     }
     Ok(list)
 }
 
 /// Returns the figures of a group.
-fn group_of(
+fn compute_group(
     alloc: Global,
     group: &StreamInfoFullGroup,
     now: usize,
@@ -105,15 +105,15 @@ fn group_of(
         lag: group.lag,
         pending: group.pending_count,
         last_id: group.last_delivered_id.clone()?,
-        last_time: time_of(&group.last_delivered_id),
-        oldest_pending: age_of_first(&group.pending, now),
-        deliveries: most_deliveries(&group.pending),
-        consumers: consumers_of(alloc, &group.consumers, now)?,
+        last_time: parse_time(&group.last_delivered_id),
+        oldest_pending: compute_first_age(&group.pending, now),
+        deliveries: find_most_deliveries(&group.pending),
+        consumers: compute_consumers(alloc, &group.consumers, now)?,
     })
 }
 
 /// Returns the figures of the consumers, in order.
-fn consumers_of(
+fn compute_consumers(
     alloc: Global,
     consumers: &[StreamInfoFullConsumer],
     now: usize,
@@ -133,7 +133,7 @@ fn consumers_of(
 }
 
 /// Returns the largest delivery count of the entries, or 0 if there are none.
-fn most_deliveries(pending: &[StreamInfoFullPending]) -> usize
+fn find_most_deliveries(pending: &[StreamInfoFullPending]) -> usize
     ensures { result ≡ most_in (map full_pending_meaning pending.now) }
 {
     let mut most = 0usize;
@@ -144,25 +144,25 @@ fn most_deliveries(pending: &[StreamInfoFullPending]) -> usize
 }
 
 /// Returns the milliseconds since the time in the id of the first entry, or `None` if there is no entry.
-fn age_of_first(pending: &[StreamInfoFullPending], now: usize) -> Option<usize>
+fn compute_first_age(pending: &[StreamInfoFullPending], now: usize) -> Option<usize>
     ensures { result ≡ age_in now (map full_pending_meaning pending.now) }
 {
     match pending {
         [] => None,
-        [entry, ..] => Some(now.saturating_sub(time_of(&entry.id)?)),
+        [entry, ..] => Some(now.saturating_sub(parse_time(&entry.id)?)),
     }
 }
 
 /// Returns the milliseconds of an id, or `None` if the text does not begin with milliseconds and a hyphen.
-fn time_of(id: &str) -> Option<usize>
+fn parse_time(id: &str) -> Option<usize>
     ensures { result ≡ time_in id.now }
 {
     let (time, _) = id.split_once('-')?;
-    number_of(time)
+    parse_number(time)
 }
 
 /// Parses a number of 64 bits.
-fn number_of(text: &str) -> Option<usize>
+fn parse_number(text: &str) -> Option<usize>
     ensures { result ≡ option_and_then (within 64) (unsigned_of text.now) }
 {
     text.parse().ok()

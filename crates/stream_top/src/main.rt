@@ -76,11 +76,11 @@ fn ask<R: Read + Drop, W: Write + Drop>(
     connection.send(alloc, &"TIME")?;
     connection.send(alloc, &xinfo_stream_full_count(key, COUNT))?;
     let (seconds, micros): (usize, usize) = receive_as(alloc, connection)?;
-    let now = milliseconds_of(seconds, micros);
+    let now = compute_milliseconds(seconds, micros);
     let Some(reply) = receive_of_key(alloc, connection)? else {
         return Ok((None, now));
     };
-    let stream: StreamInfoFullReply = from_redis_value(alloc, legible(alloc, &reply)?)?;
+    let stream: StreamInfoFullReply = from_redis_value(alloc, copy_value(alloc, &reply)?)?;
     Ok((Some(stream), now))
 }
 
@@ -215,7 +215,7 @@ fn format_text(alloc: Global, streams: &[StreamFigures], form: Form) -> Result<S
     ensures { IfOk result (λ text. string_bytes text ≡ text_in form streams.now) }
 {
     let text = match form {
-        Form::Json => json_line(alloc, streams)?,
+        Form::Json => make_json_line(alloc, streams)?,
         Form::OpenMetrics => metrics_text(alloc, streams)?,
     };
     match String::from_utf8(text) {
@@ -225,7 +225,7 @@ fn format_text(alloc: Global, streams: &[StreamFigures], form: Form) -> Result<S
 }
 
 /// Returns the JSON document as a line.
-fn json_line(alloc: Global, streams: &[StreamFigures]) -> Result<Vec<u8>, AllocError>
+fn make_json_line(alloc: Global, streams: &[StreamFigures]) -> Result<Vec<u8>, AllocError>
     ensures { IfOk result (λ line. line.items ≡ json_line streams.now) }
 {
     let mut line = json_text(alloc, streams)?;
@@ -290,10 +290,10 @@ fn find_or_empty(
 fn read_arguments<E: Env>(alloc: Global, rt: &E) -> Result<Vec<Word>> {
     let mut words = Vec::new(alloc);
     for number in 1..usize::MAX {
-        let Some(bytes) = word_at(alloc, rt, number)? else {
+        let Some(bytes) = read_argument(alloc, rt, number)? else {
             break;
         };
-        let text = escaped(alloc, &bytes)?;
+        let text = escape_bytes(alloc, &bytes)?;
         words.push(Word {
             bytes: RawBytes(bytes),
             text,
@@ -306,7 +306,7 @@ fn read_arguments<E: Env>(alloc: Global, rt: &E) -> Result<Vec<Word>> {
 const LONGEST: usize = 131_072;
 
 /// Returns the argument with this number, as bytes.
-fn word_at<E: Env>(alloc: Global, rt: &E, number: usize) -> Result<Option<Vec<u8>>> {
+fn read_argument<E: Env>(alloc: Global, rt: &E, number: usize) -> Result<Option<Vec<u8>>> {
     let mut word = vec![in alloc; 0u8; LONGEST]?;
     match rt.arg(number, &mut word) {
         Ok(len) => {
@@ -332,7 +332,7 @@ fn receive_as<M: FromRedisValue, R: Read + Drop, W: Write + Drop>(
 }
 
 /// Returns the milliseconds of a reply to `TIME`, or the largest number if there are more.
-fn milliseconds_of(seconds: usize, micros: usize) -> usize
+fn compute_milliseconds(seconds: usize, micros: usize) -> usize
     ensures { result ≡ milliseconds seconds micros }
 {
     seconds.saturating_mul(1000).saturating_add(micros / 1000)
@@ -464,15 +464,15 @@ fn push_state(
 ) -> Result<(), AllocError> {
     cells.push(mask_name(alloc, name)?)?;
     cells.push(match state.lag {
-        Some(lag) => number(alloc, lag)?,
+        Some(lag) => format_number(alloc, lag)?,
         None => String::from_str(alloc, "?")?,
     })?;
-    cells.push(number(alloc, state.pending)?)?;
+    cells.push(format_number(alloc, state.pending)?)?;
     cells.push(match state.oldest_idle {
         Some(idle) => format_age(alloc, idle)?,
         None => String::from_str(alloc, "-")?,
     })?;
-    cells.push(number(alloc, state.too_often.len())?)?;
+    cells.push(format_number(alloc, state.too_often.len())?)?;
     Ok(())
 }
 
@@ -486,7 +486,7 @@ fn push_consumer(
     now: usize,
 ) -> Result<(), AllocError> {
     cells.push(mask_name(alloc, &consumer.name)?)?;
-    cells.push(number(alloc, consumer.pending_count)?)?;
+    cells.push(format_number(alloc, consumer.pending_count)?)?;
     let mut seen = format_age(alloc, now.saturating_sub(consumer.seen_time))?;
     seen.push_str(" ago")?;
     if is_among(&consumer.name, &state.dead) {
@@ -505,7 +505,7 @@ fn is_among(name: &str, names: &[String]) -> bool {
     false
 }
 
-fn number(alloc: Global, number: usize) -> Result<String, AllocError> {
+fn format_number(alloc: Global, number: usize) -> Result<String, AllocError> {
     format!(in alloc; "{number}")
 }
 
@@ -592,47 +592,44 @@ fn push_table(text: &mut String, cells: &[String]) -> Result<(), AllocError> {
 
 /// Copies a value so that each text in the copy is UTF-8.
 #[cycle(legible)]
-fn legible(alloc: Global, value: &Value) -> Result<Value, AllocError>
+fn copy_value(alloc: Global, value: &Value) -> Result<Value, AllocError>
     ensures { IfOk result (λ copy. shape_of copy ≡ shape_of value.now) }
 {
     match value {
-        Value::BulkString(bytes) => Ok(Value::BulkString(escaped(alloc, bytes)?.into_bytes())),
-        Value::Array(values) => Ok(Value::Array(legible_all(alloc, values)?)),
-        Value::Set(values) => Ok(Value::Set(legible_all(alloc, values)?)),
-        Value::Map(pairs) => Ok(Value::Map(legible_pairs(alloc, pairs)?)),
-        Value::Attribute { payload, .. } => legible(alloc, payload),
+        Value::BulkString(bytes) => Ok(Value::BulkString(escape_bytes(alloc, bytes)?.into_bytes())),
+        Value::Array(values) => Ok(Value::Array(copy_values(alloc, values)?)),
+        Value::Set(values) => Ok(Value::Set(copy_values(alloc, values)?)),
+        Value::Map(pairs) => Ok(Value::Map(copy_pairs(alloc, pairs)?)),
+        Value::Attribute { payload, .. } => copy_value(alloc, payload),
         other => other.try_clone(alloc),
     }
 }
 
 #[cycle(legible)]
-fn legible_all(alloc: Global, values: &Vec<Value>) -> Result<Vec<Value>, AllocError>
+fn copy_values(alloc: Global, values: &Vec<Value>) -> Result<Vec<Value>, AllocError>
     ensures { IfOk result (λ copies. map shape_of copies.items ≡ map shape_of values.now.items) }
 {
     let mut copies = Vec::with_capacity(alloc, values.len())?;
     for value in values {
-        copies.push(legible(alloc, value)?)?;
+        copies.push(copy_value(alloc, value)?)?;
     }
     Ok(copies)
 }
 
 #[cycle(legible)]
-fn legible_pairs(
-    alloc: Global,
-    pairs: &Vec<(Value, Value)>,
-) -> Result<Vec<(Value, Value)>, AllocError>
+fn copy_pairs(alloc: Global, pairs: &Vec<(Value, Value)>) -> Result<Vec<(Value, Value)>, AllocError>
     ensures { IfOk result (λ copies. map shape_of_pair copies.items ≡ map shape_of_pair pairs.now.items) }
 {
     let mut copies = Vec::with_capacity(alloc, pairs.len())?;
     for pair in pairs {
-        let name = legible(alloc, &pair.0)?;
-        copies.push((name, legible(alloc, &pair.1)?))?;
+        let name = copy_value(alloc, &pair.0)?;
+        copies.push((name, copy_value(alloc, &pair.1)?))?;
     }
     Ok(copies)
 }
 
 /// Converts bytes to a text.
-fn escaped(alloc: Global, bytes: &[u8]) -> Result<String, AllocError> {
+fn escape_bytes(alloc: Global, bytes: &[u8]) -> Result<String, AllocError> {
     let mut text = String::new(alloc);
     for chunk in bytes.utf8_chunks() {
         for letter in chunk.valid().chars() {

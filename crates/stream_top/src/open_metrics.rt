@@ -99,7 +99,7 @@ fn push_head(out: &mut Vec<u8>, metric: Metric) -> Result<(), AllocError>
     if is_time_of(metric) {
         push_row(out, b"# UNIT ", metric, b" seconds\n")?;
     }
-    push_row(out, b"# HELP ", metric, help(metric).as_bytes())
+    push_row(out, b"# HELP ", metric, describe_metric(metric).as_bytes())
 }
 
 /// Appends the name of a metric between two texts.
@@ -112,7 +112,7 @@ fn push_row(
     ensures { OnOk result (out.new.items ≡ out.old.items ++ (before.now ++ (name_text metric ++ after.now))) }
 {
     out.extend_from_slice(before)?;
-    out.extend_from_slice(name(metric).as_bytes())?;
+    out.extend_from_slice(name_metric(metric).as_bytes())?;
     out.extend_from_slice(after)
 }
 
@@ -141,8 +141,8 @@ fn push_stream(
 ) -> Result<(), AllocError>
     ensures { OnOk result (out.new.items ≡ out.old.items ++ stream_samples metric stream.now) }
 {
-    let labels = with_label(alloc, b"", b"stream=\"", &stream.key)?;
-    push_sample(out, metric, &labels, of_stream(metric, stream))?;
+    let labels = add_label(alloc, b"", b"stream=\"", &stream.key)?;
+    push_sample(out, metric, &labels, find_stream_number(metric, stream))?;
     push_groups(alloc, out, metric, &labels, &stream.groups)
 }
 
@@ -174,8 +174,8 @@ fn push_group(
 ) -> Result<(), AllocError>
     ensures { OnOk result (out.new.items ≡ out.old.items ++ group_samples metric above.now group.now) }
 {
-    let labels = with_label(alloc, above, b",group=\"", &group.name)?;
-    push_sample(out, metric, &labels, of_group(metric, group))?;
+    let labels = add_label(alloc, above, b",group=\"", &group.name)?;
+    push_sample(out, metric, &labels, find_group_number(metric, group))?;
     push_consumers(alloc, out, metric, &labels, &group.consumers)
 }
 
@@ -208,13 +208,13 @@ fn push_consumer(
     ensures { OnOk result (out.new.items
         ≡ out.old.items ++ consumer_samples metric above.now consumer.now) }
 {
-    let labels = with_label(alloc, above, b",consumer=\"", &consumer.name)?;
-    push_sample(out, metric, &labels, of_consumer(metric, consumer))
+    let labels = add_label(alloc, above, b",consumer=\"", &consumer.name)?;
+    push_sample(out, metric, &labels, find_consumer_number(metric, consumer))
 }
 
 /// Returns the labels, and one more label that begins with `begin` and has the value `name`.
 #[tactic(auto, unfolding(crate::specs::Metrics::labelled))]
-fn with_label(alloc: Global, labels: &[u8], begin: &[u8], name: &str) -> Result<Vec<u8>, AllocError>
+fn add_label(alloc: Global, labels: &[u8], begin: &[u8], name: &str) -> Result<Vec<u8>, AllocError>
     ensures { IfOk result (λ all. all.items ≡ labelled labels.now begin.now name.now) }
 {
     let mut all = Vec::new(alloc);
@@ -261,7 +261,7 @@ fn push_sample(
     let Some(number) = number else {
         return Ok(());
     };
-    out.extend_from_slice(name(metric).as_bytes())?;
+    out.extend_from_slice(name_metric(metric).as_bytes())?;
     out.push(b'{')?;
     out.extend_from_slice(labels)?;
     out.extend_from_slice(b"} ")?;
@@ -300,7 +300,7 @@ fn push_seconds(out: &mut Vec<u8>, milliseconds: usize) -> Result<(), AllocError
 }
 
 /// Returns the name of a metric.
-fn name(metric: Metric) -> &'static str
+fn name_metric(metric: Metric) -> &'static str
     ensures { result.now ≡ name_text metric }
 {
     match metric {
@@ -317,7 +317,7 @@ fn name(metric: Metric) -> &'static str
 }
 
 /// Returns the description of a metric, for people.
-fn help(metric: Metric) -> &'static str
+fn describe_metric(metric: Metric) -> &'static str
     ensures { result.now ≡ help_text metric }
 {
     match metric {
@@ -347,7 +347,7 @@ fn is_time_of(metric: Metric) -> bool
 }
 
 /// Returns the number for a stream, if the metric is one of streams.
-fn of_stream(metric: Metric, stream: &StreamFigures) -> Option<usize>
+fn find_stream_number(metric: Metric, stream: &StreamFigures) -> Option<usize>
     ensures { result ≡ stream_number metric stream.now }
 {
     match metric {
@@ -358,7 +358,7 @@ fn of_stream(metric: Metric, stream: &StreamFigures) -> Option<usize>
 }
 
 /// Returns the number for a group, if the metric is one of groups.
-fn of_group(metric: Metric, group: &GroupFigures) -> Option<usize>
+fn find_group_number(metric: Metric, group: &GroupFigures) -> Option<usize>
     ensures { result ≡ group_number metric group.now }
 {
     match metric {
@@ -372,7 +372,7 @@ fn of_group(metric: Metric, group: &GroupFigures) -> Option<usize>
 }
 
 /// Returns the number for a consumer, if the metric is one of consumers.
-fn of_consumer(metric: Metric, consumer: &ConsumerFigures) -> Option<usize>
+fn find_consumer_number(metric: Metric, consumer: &ConsumerFigures) -> Option<usize>
     ensures { result ≡ consumer_number metric consumer.now }
 {
     match metric {

@@ -63,8 +63,8 @@ pub fn task_of(alloc: Global, words: &[Word], texts: &[String]) -> Result<Task, 
     ensures least { IfOk result (λ _. 1 ≤ length texts.now) }
     ensures said { IfOk result (λ task. IsTaskOf words.now (map string_bytes texts.now) task) }
 {
-    let mut command = command_of(alloc)?;
-    let task = read_task(alloc, &mut command, words, texts)?;
+    let mut command = make_command(alloc)?;
+    let task = parse_task(alloc, &mut command, words, texts)?;
     let line = Line::read::<OptionArity>(alloc, texts)?;
     if !says(alloc, &line, words, &task)? {
         return Err(refused(alloc, &mut command, &"the words do not say what was read"));
@@ -73,7 +73,7 @@ pub fn task_of(alloc: Global, words: &[Word], texts: &[String]) -> Result<Task, 
 }
 
 /// Returns the task that clap finds in the texts of the arguments.
-fn read_task<'a>(
+fn parse_task<'a>(
     alloc: Global,
     command: &mut Command<'a>,
     words: &[Word],
@@ -82,10 +82,10 @@ fn read_task<'a>(
     ensures { IfOk result (λ _. 1 ≤ length texts.now) }
 {
     let matches = matches_of(alloc, command, texts, 1)?;
-    let Some(form) = form_of(&matches) else {
-        return tables_of(alloc, words, texts);
+    let Some(form) = parse_form(&matches) else {
+        return parse_tables(alloc, words, texts);
     };
-    let keys = keys_of(alloc, words, &matches)?;
+    let keys = parse_keys(alloc, words, &matches)?;
     Ok(Task::Text { keys, form })
 }
 
@@ -100,7 +100,7 @@ pub fn texts_of(alloc: Global, words: &[Word]) -> Result<Vec<String>, AllocError
     Ok(texts)
 }
 
-fn command_of<'a>(alloc: Global) -> Result<Command<'a>, AllocError> {
+fn make_command<'a>(alloc: Global) -> Result<Command<'a>, AllocError> {
     let about =
         "Shows the groups of a stream in a table, ROUNDS times, or prints the figures of streams for monitors.";
     let json = "Prints the figures of all KEYs once, as a document of JSON";
@@ -108,14 +108,14 @@ fn command_of<'a>(alloc: Global) -> Result<Command<'a>, AllocError> {
     let once = "Only with one of these, which print once without it too";
     command(alloc, PROGRAM, about)
         .override_usage(USAGE)
-        .arg(keys(alloc))?
+        .arg(make_keys_arg(alloc))?
         .arg(flag(alloc, JSON, json))?
         .arg(flag(alloc, OPEN_METRICS, open_metrics))?
         .arg(flag(alloc, "once", once).requires_arg(FORM)?)?
         .group(ArgGroup::new(alloc, FORM).arg(JSON)?.arg(OPEN_METRICS)?)
 }
 
-fn keys<'a>(alloc: Global) -> Arg<'a> {
+fn make_keys_arg<'a>(alloc: Global) -> Arg<'a> {
     Arg::new(alloc, KEY)
         .required(true)
         .action(ArgAction::Append)
@@ -123,7 +123,7 @@ fn keys<'a>(alloc: Global) -> Arg<'a> {
         .help("The stream; with --json or --openmetrics one stream or more")
 }
 
-fn form_of(matches: &ArgMatches<'_>) -> Option<Form> {
+fn parse_form(matches: &ArgMatches<'_>) -> Option<Form> {
     if matches.get_flag(JSON) {
         Some(Form::Json)
     } else if matches.get_flag(OPEN_METRICS) {
@@ -134,7 +134,7 @@ fn form_of(matches: &ArgMatches<'_>) -> Option<Form> {
 }
 
 /// Returns the keys in the arguments, in order.
-fn keys_of(
+fn parse_keys(
     alloc: Global,
     words: &[Word],
     matches: &ArgMatches<'_>,
@@ -142,14 +142,14 @@ fn keys_of(
     let mut keys = Vec::new(alloc);
     if let Some(names) = matches.get_strs(KEY) {
         for name in names {
-            keys.push(key_of(alloc, words, name)?)?;
+            keys.push(parse_key(alloc, words, name)?)?;
         }
     }
     Ok(keys)
 }
 
 /// Returns the key with the text `name`.
-fn key_of(alloc: Global, words: &[Word], name: &str) -> Result<Key, AllocError> {
+fn parse_key(alloc: Global, words: &[Word], name: &str) -> Result<Key, AllocError> {
     let mut bytes = Vec::new(alloc);
     for word in words {
         if word.text.as_str() == name {
@@ -163,20 +163,20 @@ fn key_of(alloc: Global, words: &[Word], name: &str) -> Result<Key, AllocError> 
 }
 
 /// Returns the task without a format: a key, and the number of tables to print.
-fn tables_of(alloc: Global, words: &[Word], texts: &[String]) -> Result<Task, Error>
+fn parse_tables(alloc: Global, words: &[Word], texts: &[String]) -> Result<Task, Error>
     ensures { IfOk result (λ _. 1 ≤ length texts.now) }
 {
     let mut command = command(alloc, PROGRAM, "")
         .override_usage(USAGE)
         .arg(Arg::new(alloc, KEY).required(true).action(ArgAction::Set))?
-        .arg(rounds(alloc))?;
+        .arg(make_rounds_arg(alloc))?;
     let matches = matches_of(alloc, &mut command, texts, 2)?;
-    let key = key_of(alloc, words, word_of(&matches, KEY))?;
+    let key = parse_key(alloc, words, word_of(&matches, KEY))?;
     let rounds = matches.get_one::<u32>(ROUNDS).unwrap_or(0);
     Ok(Task::Tables { key, rounds })
 }
 
-fn rounds<'a>(alloc: Global) -> Arg<'a> {
+fn make_rounds_arg<'a>(alloc: Global) -> Arg<'a> {
     Arg::new(alloc, ROUNDS)
         .required(true)
         .action(ArgAction::Set)

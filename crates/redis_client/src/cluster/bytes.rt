@@ -13,7 +13,7 @@ pub(crate) fn bytes_behind<'a>(head: &[u8], bytes: &'a [u8]) -> Option<&'a [u8]>
 }
 
 /// The index of the first such byte.
-fn place_of(bytes: &[u8], byte: u8) -> Option<usize>
+fn find_byte(bytes: &[u8], byte: u8) -> Option<usize>
     ensures { result ≡ position (λ b. b == byte) bytes.now }
 {
     bytes.iter().position(|b| *b == byte)
@@ -23,7 +23,7 @@ fn place_of(bytes: &[u8], byte: u8) -> Option<usize>
 pub(crate) fn split_first(bytes: &[u8], byte: u8) -> Option<(&[u8], &[u8])>
     ensures { option_map (λ x. (x.0.now, x.1.now)) result ≡ split_first byte bytes.now }
 {
-    let place = place_of(bytes, byte)?;
+    let place = find_byte(bytes, byte)?;
     Some((&bytes[..place], &bytes[place + 1..]))
 }
 

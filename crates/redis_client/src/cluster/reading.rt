@@ -22,18 +22,18 @@ pub fn cluster_error(text: &[u8]) -> Option<ClusterError<'_>>
     ensures { IsReadFrom text.now (option_map meaning_of result) }
 {
     if let Some(rest) = bytes_behind(b"MOVED ", text) {
-        let Place { slot, host, port } = place_in(rest)?;
+        let Place { slot, host, port } = parse_place(rest)?;
         return Some(ClusterError::Moved { slot, host, port });
     }
     if let Some(rest) = bytes_behind(b"ASK ", text) {
-        let Place { slot, host, port } = place_in(rest)?;
+        let Place { slot, host, port } = parse_place(rest)?;
         return Some(ClusterError::Ask { slot, host, port });
     }
-    error_of(code_in(text))
+    find_error(find_code(text))
 }
 
 /// The part before the first space, or the whole text if there is none.
-fn code_in(text: &[u8]) -> &[u8]
+fn find_code(text: &[u8]) -> &[u8]
     ensures { result.now ≡ code_of text.now }
 {
     match split_first(text, b' ') {
@@ -43,7 +43,7 @@ fn code_in(text: &[u8]) -> &[u8]
 }
 
 /// The error of a code without an address.
-fn error_of(code: &[u8]) -> Option<ClusterError<'_>>
+fn find_error(code: &[u8]) -> Option<ClusterError<'_>>
     ensures { option_map meaning_of result ≡ option_map other_meaning (other_of code.now) }
 {
     if code == b"TRYAGAIN".as_slice() {
@@ -64,7 +64,7 @@ fn error_of(code: &[u8]) -> Option<ClusterError<'_>>
 }
 
 /// The slot and the address in the bytes: the slot, a space, the host, a colon and the port.
-fn place_in(bytes: &[u8]) -> Option<Place<'_>>
+fn parse_place(bytes: &[u8]) -> Option<Place<'_>>
     ensures { IsPlaceIn bytes.now (option_map place_of result) }
 {
     let (slot, behind) = split_first(bytes, b' ')?;

@@ -40,7 +40,7 @@ fn has_reversed(ranges: &[SlotRange]) -> bool
 }
 
 /// Whether a slot is in both.
-fn overlap(one: &SlotRange, other: &SlotRange) -> bool
+fn are_overlapping(one: &SlotRange, other: &SlotRange) -> bool
     ensures { result ≡ overlap one.now other.now }
 {
     one.first <= other.last && other.first <= one.last
@@ -50,11 +50,11 @@ fn overlap(one: &SlotRange, other: &SlotRange) -> bool
 fn has_overlap(range: &SlotRange, others: &[SlotRange]) -> bool
     ensures { result ≡ list_any (overlap range.now) others.now }
 {
-    others.iter().any(|other| overlap(range, other))
+    others.iter().any(|other| are_overlapping(range, other))
 }
 
 /// Whether no two of the ranges overlap.
-fn all_apart(ranges: &[SlotRange]) -> bool
+fn are_apart(ranges: &[SlotRange]) -> bool
     ensures { result ≡ all_apart ranges.now }
 {
     let mut left = ranges;
@@ -68,7 +68,7 @@ fn all_apart(ranges: &[SlotRange]) -> bool
 }
 
 /// All ranges of the shards, in order.
-fn ranges_in(alloc: Global, shards: &[Shard]) -> Result<Vec<SlotRange>, AllocError>
+fn collect_ranges(alloc: Global, shards: &[Shard]) -> Result<Vec<SlotRange>, AllocError>
     ensures { IfOk result (λ r. r.items ≡ ranges_in (map shard_meaning shards.now)) }
 {
     let mut ranges = Vec::new(alloc);
@@ -89,7 +89,7 @@ fn check_ranges(ranges: &[SlotRange]) -> Result<(), TopologyError>
     if has_reversed(ranges) {
         return Err(TopologyError::Reversed);
     }
-    if all_apart(ranges) {
+    if are_apart(ranges) {
         Ok(())
     } else {
         Err(TopologyError::Overlap)
@@ -101,6 +101,6 @@ pub(crate) fn check_shards(alloc: Global, shards: &[Shard]) -> Result<(), Topolo
     ensures ok { IfOk result (λ _. Fits (ranges_in (map shard_meaning shards.now))) }
     ensures err { IfErr result (FitsNot (ranges_in (map shard_meaning shards.now))) }
 {
-    let ranges = ranges_in(alloc, shards)?;
+    let ranges = collect_ranges(alloc, shards)?;
     check_ranges(&ranges)
 }

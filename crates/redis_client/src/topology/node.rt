@@ -49,7 +49,7 @@ pub(crate) fn read_replica<S: Source>(alloc: Global, v: S) -> Result<Node, Parsi
 }
 
 /// The role of this name.
-fn role_of(name: &str) -> Option<Role>
+fn parse_role(name: &str) -> Option<Role>
     ensures { result ≡ role_of name.now }
 {
     match name {
@@ -85,7 +85,7 @@ fn read_node<S: Source>(alloc: Global, v: S) -> Result<Node, ParsingError>
     let Some(name) = field_of::<String>(alloc, &fields, "role")? else {
         return Err(ParsingError::NotText);
     };
-    let Some(role) = role_of(&name) else {
+    let Some(role) = parse_role(&name) else {
         return Err(ParsingError::NotText);
     };
     Ok(Node {

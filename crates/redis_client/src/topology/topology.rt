@@ -51,13 +51,13 @@ impl Topology {
     pub fn master_of(&self, slot: u16) -> Option<&Node>
         ensures { option_map (λ n. node_meaning n.now) result ≡ master_of (shards_of self.now) slot }
     {
-        let shard = shard_of(&self.shards, slot)?;
+        let shard = find_shard(&self.shards, slot)?;
         find_known_master(&shard.nodes)
     }
 }
 
 /// The first of the shards that has the slot.
-fn shard_of(shards: &[Shard], slot: u16) -> Option<&Shard>
+fn find_shard(shards: &[Shard], slot: u16) -> Option<&Shard>
     ensures { option_map (λ s. shard_meaning s.now) result
         ≡ find (λ s. has_slot s slot) (map shard_meaning shards.now) }
 {

@@ -47,7 +47,7 @@ pub fn forward<R: Read + Drop, W: Write + Drop, T: WithOutbox + Drop, P: Eprint 
     let mut asked = Asked::Nothing;
     for _ in 0..u64::MAX {
         let seen = rows.seen;
-        asked = pass(rt, connection, worker, rows, counts, dead, asked)?;
+        asked = make_pass(rt, connection, worker, rows, counts, dead, asked)?;
         if until_empty && asked == Asked::New && rows.seen == seen {
             let before = seen;
             return Ok(Drained {
@@ -59,7 +59,7 @@ pub fn forward<R: Read + Drop, W: Write + Drop, T: WithOutbox + Drop, P: Eprint 
 }
 
 /// Forwards the committed entries, and makes a round. Returns the command of the round.
-fn pass<R: Read + Drop, W: Write + Drop, T: WithOutbox + Drop, P: Eprint + AllocGlobal>(
+fn make_pass<R: Read + Drop, W: Write + Drop, T: WithOutbox + Drop, P: Eprint + AllocGlobal>(
     rt: &P,
     connection: &mut Connection<R, W>,
     worker: &mut Worker,
@@ -80,7 +80,7 @@ fn pass<R: Read + Drop, W: Write + Drop, T: WithOutbox + Drop, P: Eprint + Alloc
     ensures same_search { option_map searcher_of dead.new ≡ option_map searcher_of dead.old }
 {
     send(rt.alloc(), connection, rows)?;
-    turn(rt, connection, worker, rows, counts, dead, asked)
+    make_turn(rt, connection, worker, rows, counts, dead, asked)
 }
 
 /// Forwards the committed entries.
@@ -118,7 +118,7 @@ fn explain_send_error(error: SendError, target: &str) -> Error {
 }
 
 /// Searches for entries to give up, makes a round, and counts. Returns the command of the round.
-fn turn<R: Read + Drop, W: Write + Drop, T: WithOutbox + Drop, P: Eprint + AllocGlobal>(
+fn make_turn<R: Read + Drop, W: Write + Drop, T: WithOutbox + Drop, P: Eprint + AllocGlobal>(
     rt: &P,
     connection: &mut Connection<R, W>,
     worker: &mut Worker,
@@ -149,7 +149,7 @@ fn turn<R: Read + Drop, W: Write + Drop, T: WithOutbox + Drop, P: Eprint + Alloc
         asked,
         rows.done > rows.committed,
     )?;
-    let asked = round(rt.alloc(), connection, worker, rows)?;
+    let asked = make_round(rt.alloc(), connection, worker, rows)?;
     if asked == Asked::Acknowledgement {
         counts.count(rows.committed);
     }
@@ -158,7 +158,7 @@ fn turn<R: Read + Drop, W: Write + Drop, T: WithOutbox + Drop, P: Eprint + Alloc
 }
 
 /// Makes a round after which the worker goes on. Returns the command of the round.
-fn round<R: Read + Drop, W: Write + Drop, T: WithOutbox + Drop>(
+fn make_round<R: Read + Drop, W: Write + Drop, T: WithOutbox + Drop>(
     alloc: Global,
     connection: &mut Connection<R, W>,
     worker: &mut Worker,

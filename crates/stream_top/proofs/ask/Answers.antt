@@ -47,7 +47,7 @@ returns-in_default-clause-heard g c = record {
         micros = c.in_ok-seconds.micros;
         heard = read.1;
         reads = read.2;
-        is_now = c.milliseconds_of-now.ensures;
+        is_now = c.compute_milliseconds-now.ensures;
       };
   stream =
       let told = c.in_ok-reply.ensures.of_key in
@@ -74,7 +74,7 @@ returns-clause-heard g c = record {
         micros = c.in_ok-seconds.micros;
         heard = read.1;
         reads = read.2;
-        is_now = c.milliseconds_of-now.ensures;
+        is_now = c.compute_milliseconds-now.ensures;
       };
   stream =
       let told = c.in_ok-reply.ensures.of_key in
@@ -83,6 +83,6 @@ returns-clause-heard g c = record {
       record {
         reply = told.reply;
         heard = told.heard;
-        is = (tree c.in-Some.reply, tree c.in_ok-legible.field-0, is, c.in_ok-legible.ensures, c.in_ok-stream.ensures.ok);
+        is = (tree c.in-Some.reply, tree c.in_ok-copy_value.field-0, is, c.in_ok-copy_value.ensures, c.in_ok-stream.ensures.ok);
       };
 }

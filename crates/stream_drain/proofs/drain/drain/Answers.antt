@@ -24,11 +24,11 @@ returns-in_err-last-clause-err g c =
     (g.D.LogFile.seen c.args.lines.now.log.file) c.args.lines.now.log.len in
     let x = stands c.loop-turn.worker c.loop-turn.lines.json (known_by c.loop-turn.lines.known) c.loop-turn.lines.log.batch.items
     (g.D.LogFile.seen c.loop-turn.lines.log.file) c.loop-turn.lines.log.len in
-    let y = stands c.turn.new.worker c.turn.new.lines.json (known_by c.turn.new.lines.known) c.turn.new.lines.log.batch.items
-    (g.D.LogFile.seen c.turn.new.lines.log.file) c.turn.new.lines.log.len in
+    let y = stands c.make_turn.new.worker c.make_turn.new.lines.json (known_by c.make_turn.new.lines.known) c.make_turn.new.lines.log.batch.items
+    (g.D.LogFile.seen c.make_turn.new.lines.log.file) c.make_turn.new.lines.log.len in
     on_err c.from_residual.result
-    (leads_stop settings c.args.connection.now c.loop-turn.connection c.turn.new.connection w x y c.loop-turn.invariant.leads
-    (subst (λ (s : Settings). Leads (Stops s) c.loop-turn.connection c.turn.new.connection x y)
+    (leads_stop settings c.args.connection.now c.loop-turn.connection c.make_turn.new.connection w x y c.loop-turn.invariant.leads
+    (subst (λ (s : Settings). Leads (Stops s) c.loop-turn.connection c.make_turn.new.connection x y)
     c.loop-turn.invariant.settings c.in_err-last.ensures.err))
 
 pub returns-in_err-last-clause-filed : goal.returns-in_err-last-clause-filed
@@ -38,14 +38,14 @@ returns-in_err-last-clause-filed g c =
     (g.D.LogFile.seen c.args.lines.now.log.file) c.args.lines.now.log.len in
     let x = stands c.loop-turn.worker c.loop-turn.lines.json (known_by c.loop-turn.lines.known) c.loop-turn.lines.log.batch.items
     (g.D.LogFile.seen c.loop-turn.lines.log.file) c.loop-turn.lines.log.len in
-    let y = stands c.turn.new.worker c.turn.new.lines.json (known_by c.turn.new.lines.known) c.turn.new.lines.log.batch.items
-    (g.D.LogFile.seen c.turn.new.lines.log.file) c.turn.new.lines.log.len in
+    let y = stands c.make_turn.new.worker c.make_turn.new.lines.json (known_by c.make_turn.new.lines.known) c.make_turn.new.lines.log.batch.items
+    (g.D.LogFile.seen c.make_turn.new.lines.log.file) c.make_turn.new.lines.log.len in
     filed_from g.D.LogFile.seen g.D.LogFile.may_leave g.D.LogFile.is_sound settings c.args.connection.now
-    c.turn.new.connection w c.turn.new.worker c.turn.new.lines.json (known_by c.turn.new.lines.known) c.turn.new.lines.log.batch.items
-    c.turn.new.lines.log.file c.turn.new.lines.log.len c.turn.new.lines.log.is_broken c.turn.new.lines.held
-    (with_stops settings c.args.connection.now c.turn.new.connection w y
-    (leads_stop settings c.args.connection.now c.loop-turn.connection c.turn.new.connection w x y c.loop-turn.invariant.leads
-    (subst (λ (s : Settings). Leads (Stops s) c.loop-turn.connection c.turn.new.connection x y)
+    c.make_turn.new.connection w c.make_turn.new.worker c.make_turn.new.lines.json (known_by c.make_turn.new.lines.known) c.make_turn.new.lines.log.batch.items
+    c.make_turn.new.lines.log.file c.make_turn.new.lines.log.len c.make_turn.new.lines.log.is_broken c.make_turn.new.lines.held
+    (with_stops settings c.args.connection.now c.make_turn.new.connection w y
+    (leads_stop settings c.args.connection.now c.loop-turn.connection c.make_turn.new.connection w x y c.loop-turn.invariant.leads
+    (subst (λ (s : Settings). Leads (Stops s) c.loop-turn.connection c.make_turn.new.connection x y)
     c.loop-turn.invariant.settings c.in_err-last.ensures.err)))
 
 pub returns-then-lines-last-clause-ok : goal.returns-then-lines-last-clause-ok
@@ -55,10 +55,10 @@ returns-then-lines-last-clause-ok g c =
     (g.D.LogFile.seen c.args.lines.now.log.file) c.args.lines.now.log.len in
     let x = stands c.loop-turn.worker c.loop-turn.lines.json (known_by c.loop-turn.lines.known) c.loop-turn.lines.log.batch.items
     (g.D.LogFile.seen c.loop-turn.lines.log.file) c.loop-turn.lines.log.len in
-    let y = stands c.turn.new.worker c.turn.new.lines.json (known_by c.turn.new.lines.known) c.turn.new.lines.log.batch.items
-    (g.D.LogFile.seen c.turn.new.lines.log.file) c.turn.new.lines.log.len in
-    leads_both settings c.args.connection.now c.loop-turn.connection c.turn.new.connection w x y c.loop-turn.invariant.leads
-    (subst (λ (s : Settings). Leads (Loops s) c.loop-turn.connection c.turn.new.connection x y)
+    let y = stands c.make_turn.new.worker c.make_turn.new.lines.json (known_by c.make_turn.new.lines.known) c.make_turn.new.lines.log.batch.items
+    (g.D.LogFile.seen c.make_turn.new.lines.log.file) c.make_turn.new.lines.log.len in
+    leads_both settings c.args.connection.now c.loop-turn.connection c.make_turn.new.connection w x y c.loop-turn.invariant.leads
+    (subst (λ (s : Settings). Leads (Loops s) c.loop-turn.connection c.make_turn.new.connection x y)
     c.loop-turn.invariant.settings c.in_ok-last.ensures.ok)
 
 pub returns-then-lines-last-clause-confirmed : goal.returns-then-lines-last-clause-confirmed
@@ -68,13 +68,13 @@ returns-then-lines-last-clause-confirmed g c =
     (g.D.LogFile.seen c.args.lines.now.log.file) c.args.lines.now.log.len in
     let x = stands c.loop-turn.worker c.loop-turn.lines.json (known_by c.loop-turn.lines.known) c.loop-turn.lines.log.batch.items
     (g.D.LogFile.seen c.loop-turn.lines.log.file) c.loop-turn.lines.log.len in
-    let y = stands c.turn.new.worker c.turn.new.lines.json (known_by c.turn.new.lines.known) c.turn.new.lines.log.batch.items
-    (g.D.LogFile.seen c.turn.new.lines.log.file) c.turn.new.lines.log.len in
-    so_many_turns c.args.wait settings (c.loop-turn._turn + 1) c.args.connection.now c.turn.new.connection w y
+    let y = stands c.make_turn.new.worker c.make_turn.new.lines.json (known_by c.make_turn.new.lines.known) c.make_turn.new.lines.log.batch.items
+    (g.D.LogFile.seen c.make_turn.new.lines.log.file) c.make_turn.new.lines.log.len in
+    so_many_turns c.args.wait settings (c.loop-turn._turn + 1) c.args.connection.now c.make_turn.new.connection w y
     (one_more_turn c.args.wait settings c.loop-turn._turn c.args.connection.now c.loop-turn.connection
-    c.turn.new.connection w x y c.in_ok-last.last.asked c.loop-turn.invariant.confirmed
+    c.make_turn.new.connection w x y c.in_ok-last.last.asked c.loop-turn.invariant.confirmed
     (subst (λ (s : Settings). IfSome c.args.wait (λ one. IsConfirmedTurn written_too committed_with s one
-    c.loop-turn.connection c.turn.new.connection x y c.in_ok-last.last.asked))
+    c.loop-turn.connection c.make_turn.new.connection x y c.in_ok-last.last.asked))
     c.loop-turn.invariant.settings c.in_ok-last.ensures.confirmed))
 
 pub returns-then-lines-last-clause-filed : goal.returns-then-lines-last-clause-filed
@@ -82,12 +82,12 @@ returns-then-lines-last-clause-filed g c =
     let settings = c.args.worker.now.settings in
     let w = stands c.args.worker.now c.args.lines.now.json (known_by c.args.lines.now.known) c.args.lines.now.log.batch.items
     (g.D.LogFile.seen c.args.lines.now.log.file) c.args.lines.now.log.len in
-    let y = stands c.turn.new.worker c.turn.new.lines.json (known_by c.turn.new.lines.known) c.turn.new.lines.log.batch.items
-    (g.D.LogFile.seen c.turn.new.lines.log.file) c.turn.new.lines.log.len in
+    let y = stands c.make_turn.new.worker c.make_turn.new.lines.json (known_by c.make_turn.new.lines.known) c.make_turn.new.lines.log.batch.items
+    (g.D.LogFile.seen c.make_turn.new.lines.log.file) c.make_turn.new.lines.log.len in
     filed_from g.D.LogFile.seen g.D.LogFile.may_leave g.D.LogFile.is_sound settings c.args.connection.now
-    c.turn.new.connection w c.turn.new.worker c.turn.new.lines.json (known_by c.turn.new.lines.known) c.turn.new.lines.log.batch.items
-    c.turn.new.lines.log.file c.turn.new.lines.log.len c.turn.new.lines.log.is_broken c.turn.new.lines.held
-    (with_loops settings c.args.connection.now c.turn.new.connection w y (returns-then-lines-last-clause-ok g c))
+    c.make_turn.new.connection w c.make_turn.new.worker c.make_turn.new.lines.json (known_by c.make_turn.new.lines.known) c.make_turn.new.lines.log.batch.items
+    c.make_turn.new.lines.log.file c.make_turn.new.lines.log.len c.make_turn.new.lines.log.is_broken c.make_turn.new.lines.held
+    (with_loops settings c.args.connection.now c.make_turn.new.connection w y (returns-then-lines-last-clause-ok g c))
 
 pub returns-clause-err : goal.returns-clause-err
 returns-clause-err g c =
@@ -127,18 +127,18 @@ loop-turn-preserved g c =
     (g.D.LogFile.seen c.args.lines.now.log.file) c.args.lines.now.log.len in
     let x = stands c.loop-turn.worker c.loop-turn.lines.json (known_by c.loop-turn.lines.known) c.loop-turn.lines.log.batch.items
     (g.D.LogFile.seen c.loop-turn.lines.log.file) c.loop-turn.lines.log.len in
-    let y = stands c.turn.new.worker c.turn.new.lines.json (known_by c.turn.new.lines.known) c.turn.new.lines.log.batch.items
-    (g.D.LogFile.seen c.turn.new.lines.log.file) c.turn.new.lines.log.len in
+    let y = stands c.make_turn.new.worker c.make_turn.new.lines.json (known_by c.make_turn.new.lines.known) c.make_turn.new.lines.log.batch.items
+    (g.D.LogFile.seen c.make_turn.new.lines.log.file) c.make_turn.new.lines.log.len in
     record {
-      settings = c.turn.ensures.settings ∙ c.loop-turn.invariant.settings;
-      same_search = c.turn.ensures.same_search ∙ c.loop-turn.invariant.same_search;
-      leads = leads_both settings c.args.connection.now c.loop-turn.connection c.turn.new.connection w x y
+      settings = c.make_turn.ensures.settings ∙ c.loop-turn.invariant.settings;
+      same_search = c.make_turn.ensures.same_search ∙ c.loop-turn.invariant.same_search;
+      leads = leads_both settings c.args.connection.now c.loop-turn.connection c.make_turn.new.connection w x y
           c.loop-turn.invariant.leads
-          (subst (λ (s : Settings). Leads (Loops s) c.loop-turn.connection c.turn.new.connection x y)
+          (subst (λ (s : Settings). Leads (Loops s) c.loop-turn.connection c.make_turn.new.connection x y)
           c.loop-turn.invariant.settings c.in_ok-last.ensures.ok);
       confirmed = one_more_turn c.args.wait settings c.loop-turn._turn c.args.connection.now c.loop-turn.connection
-          c.turn.new.connection w x y c.in_ok-last.last.asked c.loop-turn.invariant.confirmed
+          c.make_turn.new.connection w x y c.in_ok-last.last.asked c.loop-turn.invariant.confirmed
           (subst (λ (s : Settings). IfSome c.args.wait (λ one. IsConfirmedTurn written_too committed_with s one
-          c.loop-turn.connection c.turn.new.connection x y c.in_ok-last.last.asked))
+          c.loop-turn.connection c.make_turn.new.connection x y c.in_ok-last.last.asked))
           c.loop-turn.invariant.settings c.in_ok-last.ensures.confirmed);
     }

@@ -23,11 +23,11 @@ returns-in_err-last-clause-err g c =
     (g.T.Table.committed c.args.rows.now.table) in
     let x = stands c.loop.worker c.loop.rows.columns.items c.loop.rows.loose.items
     (g.T.Table.committed c.loop.rows.table) in
-    let y = stands c.turn.new.worker c.turn.new.rows.columns.items c.turn.new.rows.loose.items
-    (g.T.Table.committed c.turn.new.rows.table) in
+    let y = stands c.make_turn.new.worker c.make_turn.new.rows.columns.items c.make_turn.new.rows.loose.items
+    (g.T.Table.committed c.make_turn.new.rows.table) in
     on_err c.from_residual.result
-    (leads_stop settings c.args.connection.now c.loop.connection c.turn.new.connection w x y c.loop.invariant.leads
-    (subst (λ (s : Settings). Leads (Stops s) c.loop.connection c.turn.new.connection x y)
+    (leads_stop settings c.args.connection.now c.loop.connection c.make_turn.new.connection w x y c.loop.invariant.leads
+    (subst (λ (s : Settings). Leads (Stops s) c.loop.connection c.make_turn.new.connection x y)
     c.loop.invariant.settings c.in_err-last.ensures.err))
 
 pub returns-then-rows-last-clause-ok : goal.returns-then-rows-last-clause-ok
@@ -37,10 +37,10 @@ returns-then-rows-last-clause-ok g c =
     (g.T.Table.committed c.args.rows.now.table) in
     let x = stands c.loop.worker c.loop.rows.columns.items c.loop.rows.loose.items
     (g.T.Table.committed c.loop.rows.table) in
-    let y = stands c.turn.new.worker c.turn.new.rows.columns.items c.turn.new.rows.loose.items
-    (g.T.Table.committed c.turn.new.rows.table) in
-    leads_both settings c.args.connection.now c.loop.connection c.turn.new.connection w x y c.loop.invariant.leads
-    (subst (λ (s : Settings). Leads (Loops s) c.loop.connection c.turn.new.connection x y)
+    let y = stands c.make_turn.new.worker c.make_turn.new.rows.columns.items c.make_turn.new.rows.loose.items
+    (g.T.Table.committed c.make_turn.new.rows.table) in
+    leads_both settings c.args.connection.now c.loop.connection c.make_turn.new.connection w x y c.loop.invariant.leads
+    (subst (λ (s : Settings). Leads (Loops s) c.loop.connection c.make_turn.new.connection x y)
     c.loop.invariant.settings c.in_ok-last.ensures.ok)
 
 pub returns-clause-err : goal.returns-clause-err
@@ -64,13 +64,13 @@ loop-preserved g c =
     (g.T.Table.committed c.args.rows.now.table) in
     let x = stands c.loop.worker c.loop.rows.columns.items c.loop.rows.loose.items
     (g.T.Table.committed c.loop.rows.table) in
-    let y = stands c.turn.new.worker c.turn.new.rows.columns.items c.turn.new.rows.loose.items
-    (g.T.Table.committed c.turn.new.rows.table) in
+    let y = stands c.make_turn.new.worker c.make_turn.new.rows.columns.items c.make_turn.new.rows.loose.items
+    (g.T.Table.committed c.make_turn.new.rows.table) in
     record {
-      settings = c.turn.ensures.settings ∙ c.loop.invariant.settings;
-      same_search = c.turn.ensures.same_search ∙ c.loop.invariant.same_search;
-      leads = leads_both settings c.args.connection.now c.loop.connection c.turn.new.connection w x y
+      settings = c.make_turn.ensures.settings ∙ c.loop.invariant.settings;
+      same_search = c.make_turn.ensures.same_search ∙ c.loop.invariant.same_search;
+      leads = leads_both settings c.args.connection.now c.loop.connection c.make_turn.new.connection w x y
           c.loop.invariant.leads
-          (subst (λ (s : Settings). Leads (Loops s) c.loop.connection c.turn.new.connection x y)
+          (subst (λ (s : Settings). Leads (Loops s) c.loop.connection c.make_turn.new.connection x y)
           c.loop.invariant.settings c.in_ok-last.ensures.ok);
     }

@@ -24,13 +24,13 @@ returns-in_err-asked-clause-err g c =
     (g.T.WithOutbox.committed c.args.rows.now.table) in
     let x = stands c.loop.worker c.loop.rows.columns.items c.loop.rows.loose.items
     (g.T.WithOutbox.committed c.loop.rows.table) in
-    let y = stands c.pass.new.worker c.pass.new.rows.columns.items c.pass.new.rows.loose.items
-    (g.T.WithOutbox.committed c.pass.new.rows.table) in
+    let y = stands c.make_pass.new.worker c.make_pass.new.rows.columns.items c.make_pass.new.rows.loose.items
+    (g.T.WithOutbox.committed c.make_pass.new.rows.table) in
     on_err c.from_residual.result
-    (forwards_end settings c.args.connection.now c.loop.connection c.pass.new.connection
+    (forwards_end settings c.args.connection.now c.loop.connection c.make_pass.new.connection
     (g.T.WithOutbox.committed c.args.rows.now.table) (g.T.WithOutbox.committed c.loop.rows.table) w x y
     c.loop.invariant.forwards
-    (subst (λ (s : Settings). Ends s c.loop.connection c.pass.new.connection
+    (subst (λ (s : Settings). Ends s c.loop.connection c.make_pass.new.connection
     (g.T.WithOutbox.committed c.loop.rows.table) x y)
     c.loop.invariant.settings c.in_err-asked.ensures.err))
 
@@ -41,13 +41,13 @@ returns-then-rows-seen-clause-ok g c =
     (g.T.WithOutbox.committed c.args.rows.now.table) in
     let x = stands c.loop.worker c.loop.rows.columns.items c.loop.rows.loose.items
     (g.T.WithOutbox.committed c.loop.rows.table) in
-    let y = stands c.pass.new.worker c.pass.new.rows.columns.items c.pass.new.rows.loose.items
-    (g.T.WithOutbox.committed c.pass.new.rows.table) in
-    forwards_both settings c.args.connection.now c.loop.connection c.pass.new.connection
+    let y = stands c.make_pass.new.worker c.make_pass.new.rows.columns.items c.make_pass.new.rows.loose.items
+    (g.T.WithOutbox.committed c.make_pass.new.rows.table) in
+    forwards_both settings c.args.connection.now c.loop.connection c.make_pass.new.connection
     (g.T.WithOutbox.committed c.args.rows.now.table) (g.T.WithOutbox.committed c.loop.rows.table)
-    (g.T.WithOutbox.committed c.pass.new.rows.table) w x y c.loop.invariant.forwards
+    (g.T.WithOutbox.committed c.make_pass.new.rows.table) w x y c.loop.invariant.forwards
     (subst (λ (s : Settings). Forwards s c.loop.connection (g.T.WithOutbox.committed c.loop.rows.table) x
-    c.pass.new.connection (g.T.WithOutbox.committed c.pass.new.rows.table) y)
+    c.make_pass.new.connection (g.T.WithOutbox.committed c.make_pass.new.rows.table) y)
     c.loop.invariant.settings c.in_ok-asked.ensures.ok)
 
 pub returns-clause-err : goal.returns-clause-err
@@ -75,15 +75,15 @@ loop-preserved g c =
     (g.T.WithOutbox.committed c.args.rows.now.table) in
     let x = stands c.loop.worker c.loop.rows.columns.items c.loop.rows.loose.items
     (g.T.WithOutbox.committed c.loop.rows.table) in
-    let y = stands c.pass.new.worker c.pass.new.rows.columns.items c.pass.new.rows.loose.items
-    (g.T.WithOutbox.committed c.pass.new.rows.table) in
+    let y = stands c.make_pass.new.worker c.make_pass.new.rows.columns.items c.make_pass.new.rows.loose.items
+    (g.T.WithOutbox.committed c.make_pass.new.rows.table) in
     record {
-      settings = c.pass.ensures.settings ∙ c.loop.invariant.settings;
-      same_search = c.pass.ensures.same_search ∙ c.loop.invariant.same_search;
-      forwards = forwards_both settings c.args.connection.now c.loop.connection c.pass.new.connection
+      settings = c.make_pass.ensures.settings ∙ c.loop.invariant.settings;
+      same_search = c.make_pass.ensures.same_search ∙ c.loop.invariant.same_search;
+      forwards = forwards_both settings c.args.connection.now c.loop.connection c.make_pass.new.connection
           (g.T.WithOutbox.committed c.args.rows.now.table) (g.T.WithOutbox.committed c.loop.rows.table)
-          (g.T.WithOutbox.committed c.pass.new.rows.table) w x y c.loop.invariant.forwards
+          (g.T.WithOutbox.committed c.make_pass.new.rows.table) w x y c.loop.invariant.forwards
           (subst (λ (s : Settings). Forwards s c.loop.connection (g.T.WithOutbox.committed c.loop.rows.table) x
-          c.pass.new.connection (g.T.WithOutbox.committed c.pass.new.rows.table) y)
+          c.make_pass.new.connection (g.T.WithOutbox.committed c.make_pass.new.rows.table) y)
           c.loop.invariant.settings c.in_ok-asked.ensures.ok);
     }
