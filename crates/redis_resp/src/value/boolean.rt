@@ -13,7 +13,7 @@ use crate::value::from_value::FromRedisValue;
 use std::alloc::Global;
 
 /// Returns true for the text `1`, false for `0`, and `None` for any other.
-fn truth_in(text: &[u8]) -> Option<bool>
+fn parse_truth(text: &[u8]) -> Option<bool>
     ensures { result ≡ truth_of_text text.now }
 {
     if text == b"1".as_slice() {
@@ -26,14 +26,14 @@ fn truth_in(text: &[u8]) -> Option<bool>
 }
 
 /// Returns the boolean that a value reads as, or `None`.
-fn truth_of(v: &Value) -> Option<bool>
+fn read_truth(v: &Value) -> Option<bool>
     ensures { result ≡ truth_reading (tree v.now) }
 {
     match v.as_plain() {
         Value::Nil => Some(false),
         Value::Int(z) => Some(*z != 0),
-        Value::BulkString(bytes) => truth_in(bytes),
-        Value::SimpleString(text) => truth_in(text.as_bytes()),
+        Value::BulkString(bytes) => parse_truth(bytes),
+        Value::SimpleString(text) => parse_truth(text.as_bytes()),
         Value::Okay => Some(true),
         Value::Boolean(b) => Some(*b),
         _ => None,
@@ -52,11 +52,11 @@ impl FromRedisValue for bool {
     /// Reads a `Boolean`, a whole number (false if it is 0), the texts `1` and `0`, `OK` (true) or
     /// `Nil` (false). It allocates no memory, so its one error is `NotNumber`.
     fn from_redis_value(_alloc: Global, v: Value) -> Result<bool, ParsingError> {
-        truth_of(&v).ok_or(ParsingError::NotNumber)
+        read_truth(&v).ok_or(ParsingError::NotNumber)
     }
 
     /// Returns the boolean of a borrowed value, which is kept.
     fn from_redis_value_ref(_alloc: Global, v: &Value) -> Result<bool, ParsingError> {
-        truth_of(v).ok_or(ParsingError::NotNumber)
+        read_truth(v).ok_or(ParsingError::NotNumber)
     }
 }

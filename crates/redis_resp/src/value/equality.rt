@@ -19,7 +19,7 @@ impl PartialEq for Value {
         ensures by_parts { result ≡ same (tree self.now) (tree other.now) }
         ensures equal_trees { IsTrue result ↔ (tree self.now ≡ tree other.now) }
     {
-        alike(self, other)
+        are_alike(self, other)
     }
 }
 
@@ -30,17 +30,17 @@ impl Eq for Value {
 }
 
 #[cycle(alike)]
-fn alike(a: &Value, b: &Value) -> bool
+fn are_alike(a: &Value, b: &Value) -> bool
     ensures { result ≡ same (tree a.now) (tree b.now) }
 {
     match (a, b) {
         (Value::Nil, Value::Nil) => true,
         (Value::Int(x), Value::Int(y)) => *x == *y,
         (Value::BulkString(x), Value::BulkString(y)) => x.as_slice() == y.as_slice(),
-        (Value::Array(x), Value::Array(y)) => all_alike(x, y),
+        (Value::Array(x), Value::Array(y)) => are_all_alike(x, y),
         (Value::SimpleString(x), Value::SimpleString(y)) => x.as_bytes() == y.as_bytes(),
         (Value::Okay, Value::Okay) => true,
-        (Value::Map(x), Value::Map(y)) => pairs_alike(x, y),
+        (Value::Map(x), Value::Map(y)) => are_pairs_alike(x, y),
         (
             Value::Attribute {
                 payload: x,
@@ -50,8 +50,8 @@ fn alike(a: &Value, b: &Value) -> bool
                 payload: y,
                 attributes: n,
             },
-        ) => alike(x, y) && pairs_alike(m, n),
-        (Value::Set(x), Value::Set(y)) => all_alike(x, y),
+        ) => are_alike(x, y) && are_pairs_alike(m, n),
+        (Value::Set(x), Value::Set(y)) => are_all_alike(x, y),
         (Value::Boolean(x), Value::Boolean(y)) => *x == *y,
         (
             Value::VerbatimString { format: f, text: x },
@@ -66,20 +66,20 @@ fn alike(a: &Value, b: &Value) -> bool
                 kind: g,
                 payload: y,
             },
-        ) => f.as_bytes() == g.as_bytes() && all_alike(x, y),
+        ) => f.as_bytes() == g.as_bytes() && are_all_alike(x, y),
         _ => false,
     }
 }
 
 #[cycle(alike)]
-fn all_alike(a: &[Value], b: &[Value]) -> bool
+fn are_all_alike(a: &[Value], b: &[Value]) -> bool
     ensures { result ≡ same_each (trees (map tree a.now)) (trees (map tree b.now)) }
 {
     if a.len() != b.len() {
         return false;
     }
     for i in 0..a.len() {
-        if !alike(&a[i], &b[i]) {
+        if !are_alike(&a[i], &b[i]) {
             return false;
         }
     }
@@ -87,7 +87,7 @@ fn all_alike(a: &[Value], b: &[Value]) -> bool
 }
 
 #[cycle(alike)]
-fn pairs_alike(a: &[(Value, Value)], b: &[(Value, Value)]) -> bool
+fn are_pairs_alike(a: &[(Value, Value)], b: &[(Value, Value)]) -> bool
     ensures { result ≡ same_pairs (pairs (map tree_of_pair a.now))
         (pairs (map tree_of_pair b.now)) }
 {
@@ -95,7 +95,7 @@ fn pairs_alike(a: &[(Value, Value)], b: &[(Value, Value)]) -> bool
         return false;
     }
     for i in 0..a.len() {
-        if !alike(&a[i].0, &b[i].0) || !alike(&a[i].1, &b[i].1) {
+        if !are_alike(&a[i].0, &b[i].0) || !are_alike(&a[i].1, &b[i].1) {
             return false;
         }
     }

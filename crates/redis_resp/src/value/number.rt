@@ -36,7 +36,7 @@ pub fn signed_in(text: &[u8]) -> Option<i64>
 
 /// Returns the number that a value reads as at 64 bits, or `None`.
 #[tactic(auto, using(crate::proofs::NumberLemmas::unsigned_texts))]
-fn u64_of(v: &Value) -> Option<u64>
+fn read_u64(v: &Value) -> Option<u64>
     ensures { result ≡ unsigned_reading 64 (tree v.now) }
 {
     match v.as_plain() {
@@ -49,7 +49,7 @@ fn u64_of(v: &Value) -> Option<u64>
 
 /// Returns the number that a value reads as at 63 bits and a sign, or `None`.
 #[tactic(auto, using(crate::proofs::NumberLemmas::signed_texts))]
-fn i64_of(v: &Value) -> Option<i64>
+fn read_i64(v: &Value) -> Option<i64>
     ensures { result ≡ signed_reading 63 (tree v.now) }
 {
     match v.as_plain() {
@@ -64,39 +64,39 @@ fn i64_of(v: &Value) -> Option<i64>
 pub fn usize_of(v: &Value) -> Option<usize>
     ensures { result ≡ unsigned_reading 64 (tree v.now) }
 {
-    Some(u64_of(v)? as usize)
+    Some(read_u64(v)? as usize)
 }
 
 /// Returns the number that a value reads as at 32 bits, or `None`.
 #[tactic(auto, using(crate::proofs::NumberLemmas::narrowing))]
-fn u32_of(v: &Value) -> Option<u32>
+fn read_u32(v: &Value) -> Option<u32>
     ensures { result ≡ unsigned_reading 32 (tree v.now) }
 {
-    u32::try_from(u64_of(v)?).ok()
+    u32::try_from(read_u64(v)?).ok()
 }
 
 /// Returns the number that a value reads as at 16 bits, or `None`.
 #[tactic(auto, using(crate::proofs::NumberLemmas::narrowing))]
-fn u16_of(v: &Value) -> Option<u16>
+fn read_u16(v: &Value) -> Option<u16>
     ensures { result ≡ unsigned_reading 16 (tree v.now) }
 {
-    u16::try_from(u64_of(v)?).ok()
+    u16::try_from(read_u64(v)?).ok()
 }
 
 /// Returns the number that a value reads as at 8 bits, or `None`.
 #[tactic(auto, using(crate::proofs::NumberLemmas::narrowing))]
-fn u8_of(v: &Value) -> Option<u8>
+fn read_u8(v: &Value) -> Option<u8>
     ensures { result ≡ unsigned_reading 8 (tree v.now) }
 {
-    u8::try_from(u64_of(v)?).ok()
+    u8::try_from(read_u64(v)?).ok()
 }
 
 /// Returns the number that a value reads as at 31 bits and a sign, or `None`.
 #[tactic(auto, using(crate::proofs::NumberLemmas::signed_narrowing))]
-fn i32_of(v: &Value) -> Option<i32>
+fn read_i32(v: &Value) -> Option<i32>
     ensures { result ≡ signed_reading 31 (tree v.now) }
 {
-    i32::try_from(i64_of(v)?).ok()
+    i32::try_from(read_i64(v)?).ok()
 }
 
 impl FromRedisValue for u8 {
@@ -110,12 +110,12 @@ impl FromRedisValue for u8 {
 
     /// A number below 2^8. It allocates no memory, so its one error is `NotNumber`.
     fn from_redis_value(_alloc: Global, v: Value) -> Result<u8, ParsingError> {
-        u8_of(&v).ok_or(ParsingError::NotNumber)
+        read_u8(&v).ok_or(ParsingError::NotNumber)
     }
 
     /// Returns the number of a borrowed value, which is kept.
     fn from_redis_value_ref(_alloc: Global, v: &Value) -> Result<u8, ParsingError> {
-        u8_of(v).ok_or(ParsingError::NotNumber)
+        read_u8(v).ok_or(ParsingError::NotNumber)
     }
 }
 
@@ -130,12 +130,12 @@ impl FromRedisValue for u16 {
 
     /// A number below 2^16. It allocates no memory, so its one error is `NotNumber`.
     fn from_redis_value(_alloc: Global, v: Value) -> Result<u16, ParsingError> {
-        u16_of(&v).ok_or(ParsingError::NotNumber)
+        read_u16(&v).ok_or(ParsingError::NotNumber)
     }
 
     /// Returns the number of a borrowed value, which is kept.
     fn from_redis_value_ref(_alloc: Global, v: &Value) -> Result<u16, ParsingError> {
-        u16_of(v).ok_or(ParsingError::NotNumber)
+        read_u16(v).ok_or(ParsingError::NotNumber)
     }
 }
 
@@ -150,12 +150,12 @@ impl FromRedisValue for u32 {
 
     /// A number below 2^32. It allocates no memory, so its one error is `NotNumber`.
     fn from_redis_value(_alloc: Global, v: Value) -> Result<u32, ParsingError> {
-        u32_of(&v).ok_or(ParsingError::NotNumber)
+        read_u32(&v).ok_or(ParsingError::NotNumber)
     }
 
     /// Returns the number of a borrowed value, which is kept.
     fn from_redis_value_ref(_alloc: Global, v: &Value) -> Result<u32, ParsingError> {
-        u32_of(v).ok_or(ParsingError::NotNumber)
+        read_u32(v).ok_or(ParsingError::NotNumber)
     }
 }
 
@@ -170,12 +170,12 @@ impl FromRedisValue for u64 {
 
     /// A number below 2^64. It allocates no memory, so its one error is `NotNumber`.
     fn from_redis_value(_alloc: Global, v: Value) -> Result<u64, ParsingError> {
-        u64_of(&v).ok_or(ParsingError::NotNumber)
+        read_u64(&v).ok_or(ParsingError::NotNumber)
     }
 
     /// Returns the number of a borrowed value, which is kept.
     fn from_redis_value_ref(_alloc: Global, v: &Value) -> Result<u64, ParsingError> {
-        u64_of(v).ok_or(ParsingError::NotNumber)
+        read_u64(v).ok_or(ParsingError::NotNumber)
     }
 }
 
@@ -210,12 +210,12 @@ impl FromRedisValue for i64 {
 
     /// A number from -2^63 to 2^63 - 1. It allocates no memory, so its one error is `NotNumber`.
     fn from_redis_value(_alloc: Global, v: Value) -> Result<i64, ParsingError> {
-        i64_of(&v).ok_or(ParsingError::NotNumber)
+        read_i64(&v).ok_or(ParsingError::NotNumber)
     }
 
     /// Returns the number of a borrowed value, which is kept.
     fn from_redis_value_ref(_alloc: Global, v: &Value) -> Result<i64, ParsingError> {
-        i64_of(v).ok_or(ParsingError::NotNumber)
+        read_i64(v).ok_or(ParsingError::NotNumber)
     }
 }
 
@@ -230,11 +230,11 @@ impl FromRedisValue for i32 {
 
     /// A number from -2^31 to 2^31 - 1. It allocates no memory, so its one error is `NotNumber`.
     fn from_redis_value(_alloc: Global, v: Value) -> Result<i32, ParsingError> {
-        i32_of(&v).ok_or(ParsingError::NotNumber)
+        read_i32(&v).ok_or(ParsingError::NotNumber)
     }
 
     /// Returns the number of a borrowed value, which is kept.
     fn from_redis_value_ref(_alloc: Global, v: &Value) -> Result<i32, ParsingError> {
-        i32_of(v).ok_or(ParsingError::NotNumber)
+        read_i32(v).ok_or(ParsingError::NotNumber)
     }
 }

@@ -11,7 +11,7 @@ use crate::value::from_value::FromRedisValue;
 use std::alloc::Global;
 
 /// Returns the text of the bytes, and consumes them.
-fn text_of(bytes: Vec<u8>) -> Result<String, ParsingError>
+fn into_text(bytes: Vec<u8>) -> Result<String, ParsingError>
     ensures ok { IfOk result (λ s. text_of_plain (bulk bytes.items) ≡ Some (string_bytes s)) }
     ensures err { IfErr result (λ e. text_of_plain (bulk bytes.items) ≡ None × e ≡ NotText) }
 {
@@ -37,11 +37,11 @@ impl FromRedisValue for String {
     fn from_redis_value(alloc: Global, v: Value) -> Result<String, ParsingError> {
         let v = match v {
             // most texts are bulk strings with nothing around them
-            Value::BulkString(bytes) => return text_of(bytes),
+            Value::BulkString(bytes) => return into_text(bytes),
             other => other.into_plain(),
         };
         match v {
-            Value::BulkString(bytes) => text_of(bytes),
+            Value::BulkString(bytes) => into_text(bytes),
             Value::SimpleString(text) => Ok(text),
             Value::Okay => Ok(String::from_str(alloc, "OK")?),
             Value::VerbatimString { format, text } => {

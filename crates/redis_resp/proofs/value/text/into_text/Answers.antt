@@ -1,7 +1,7 @@
 use Rattle.std.proofs.Common.{◌≡◌, refl, rules, string_bytes}
 use Rattle.std.proofs.lemmas.Str.{IsUtf8-string_bytes}
 use Rattle.redis_resp.proofs.TextLemmas.{text_in_bulk, no_text_in_bulk}
-use Rattle.redis_resp.proofs.value.text.text_of.Goals as goal
+use Rattle.redis_resp.proofs.value.text.into_text.Goals as goal
 
 pub returns-in-Ok-clause-ok : goal.returns-in-Ok-clause-ok
 returns-in-Ok-clause-ok c =
