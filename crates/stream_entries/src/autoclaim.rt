@@ -102,13 +102,13 @@ pub(crate) fn into_parts<S: Source>(v: S) -> Result<(S, S, Option<S>), ParsingEr
     ensures err { IfErr result (Refuses parts_in (RefusesParts (λ _ _. ⊥)) (S.seen v)) }
 {
     match v.into_array() {
-        Some(items) => two_or_three_of::<S>(items),
+        Some(items) => take_parts::<S>(items),
         None => Err(ParsingError::NotArray),
     }
 }
 
 /// Returns the parts of a list of two or three items.
-fn two_or_three_of<S: Source>(mut items: S::Values) -> Result<(S, S, Option<S>), ParsingError>
+fn take_parts<S: Source>(mut items: S::Values) -> Result<(S, S, Option<S>), ParsingError>
     ensures ok { IfOk result (λ parts. two_or_three (S.values_left items)
         ≡ Some (trees_of_parts S.seen parts)) }
     ensures err { IfErr result (λ e. (two_or_three (S.values_left items) ≡ None)

@@ -34,7 +34,7 @@ pub(crate) fn read_claimed<S: Source>(
     ensures ok { IfOk result (λ r. claimed_reading (S.seen v) ≡ Some (entries_of r.0, r.1)) }
     ensures err { IfErr result (Refuses claimed_reading RefusesClaimed (S.seen v)) }
 {
-    let Some((kind, count)) = shape_of(v.as_value()) else {
+    let Some((kind, count)) = find_shape(v.as_value()) else {
         return Err(ParsingError::WrongClaimedType);
     };
     let ids = read_list_of_kind(alloc, v, kind)?;
@@ -44,13 +44,13 @@ pub(crate) fn read_claimed<S: Source>(
 
 /// The kind of a list of claimed entries and the number of its items. `None` if it is of no kind.
 #[tactic(auto, using(crate::proofs::AutoClaimLemmas::shape_there, crate::proofs::AutoClaimLemmas::shape_missing))]
-fn shape_of(v: &Value) -> Option<(ClaimedKind, usize)>
+fn find_shape(v: &Value) -> Option<(ClaimedKind, usize)>
     ensures { option_map shape_meaning result ≡ claimed_shape (tree v.now) }
 {
     let Value::Array(items) = v else {
         return None;
     };
-    match kind_of(items) {
+    match find_kind(items) {
         Some(kind) => Some((kind, items.len())),
         None => None,
     }
@@ -59,7 +59,7 @@ fn shape_of(v: &Value) -> Option<(ClaimedKind, usize)>
 /// The kind of the first item that is not nil. `None` if that item is neither a bulk string nor
 /// an array.
 #[tactic(auto, using(crate::proofs::AutoClaimLemmas::kind_of_array, crate::proofs::AutoClaimLemmas::kind_of_bulk))]
-fn kind_of(items: &[Value]) -> Option<ClaimedKind>
+fn find_kind(items: &[Value]) -> Option<ClaimedKind>
     ensures { option_map kind_meaning result ≡ kind_of_items (map tree items.now) }
 {
     for item in items {

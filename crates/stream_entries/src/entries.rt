@@ -14,7 +14,7 @@ ghost use Rattle.stream_entries.specs.declared.entries.Entries.TheVariants.{Both
 use crate::item_form::{ItemForm, Rows};
 use crate::items::{Delivery, ListItem};
 use crate::items_left::{Item, ItemsLeft, count_items, into_items, next_item};
-use crate::overlap::{Form, Overlap, numbers_of, read_overlap, settle};
+use crate::overlap::{Form, Overlap, find_numbers, read_overlap, settle};
 use crate::stream_id::StreamId;
 use redis_resp::{FromRedisValue, ParsingError, Source, Value};
 use std::alloc::{AllocError, Global};
@@ -156,7 +156,7 @@ fn with_either<S: Source>(
         → behind_in_forms (entries_held (Both overlaps)) (item_in_forms (S.seen v))
         ≡ (None, None)) }
 {
-    match numbers_of(v.as_value()) {
+    match find_numbers(v.as_value()) {
         None => rule_out_claim(alloc, overlaps, Item::Whole(v), count),
         Some((None, _)) => rule_out_standard(alloc, overlaps, v, count),
         Some((_, Some(_))) => rule_out_standard(alloc, overlaps, v, count),

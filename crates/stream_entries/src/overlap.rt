@@ -39,17 +39,17 @@ pub(crate) struct Overlap {
 /// The two numbers of a delivery. `None` if the value is not an array of four or has no such
 /// numbers. It allocates nothing.
 #[tactic(auto, using(crate::proofs::NumbersLemmas::four_numbers, crate::proofs::NumbersLemmas::no_four))]
-pub(crate) fn numbers_of(v: &Value) -> Option<(Option<usize>, Option<usize>)>
+pub(crate) fn find_numbers(v: &Value) -> Option<(Option<usize>, Option<usize>)>
     ensures { result ≡ numbers_in (tree v.now) }
 {
     let (_, _, elapsed, delivered) = into_four(v)?;
-    let elapsed = number_or_nil(elapsed)?;
-    let delivered = number_or_nil(delivered)?;
+    let elapsed = read_number_or_nil(elapsed)?;
+    let delivered = read_number_or_nil(delivered)?;
     Some((elapsed, delivered))
 }
 
 /// Returns the number of a value, or no number for nil. `None` if the value is neither.
-fn number_or_nil(v: &Value) -> Option<Option<usize>>
+fn read_number_or_nil(v: &Value) -> Option<Option<usize>>
     ensures { result ≡ option_reading (unsigned_reading 64) (tree v.now) }
 {
     if is_nil(v) {

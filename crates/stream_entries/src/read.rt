@@ -82,14 +82,14 @@ fn read_reply<S: Source>(alloc: Global, v: S) -> Result<StreamReadReply, Parsing
         });
     }
     match read_streams::<S>(alloc, rows) {
-        Ok(streams) => reply_of(alloc, streams),
-        Err(error) => Err(refusal_of(error)),
+        Ok(streams) => make_reply(alloc, streams),
+        Err(error) => Err(convert_error(error)),
     }
 }
 
 /// The error of a read reply, from the error of a part. Out of memory stays as it is. Any other
 /// error means that the value has neither form.
-fn refusal_of(error: ParsingError) -> ParsingError
+fn convert_error(error: ParsingError) -> ParsingError
     ensures { ((error ≡ ParsingError.Memory) × (result ≡ ParsingError.Memory))
         ⊎ ((error ≢ ParsingError.Memory) × (result ≡ ParsingError.UnknownReadFormat)) }
 {
@@ -101,7 +101,7 @@ fn refusal_of(error: ParsingError) -> ParsingError
 
 /// Returns the reply in the standard form if all lists have it, else in the claim
 /// form.
-fn reply_of(alloc: Global, streams: OpenStreams) -> Result<StreamReadReply, ParsingError>
+fn make_reply(alloc: Global, streams: OpenStreams) -> Result<StreamReadReply, ParsingError>
     ensures ok { IfOk result (λ r. option_or (streams_held streams).0 (streams_held streams).1
         ≡ Some (streams_of r.keys)) }
     ensures err { IfErr result (λ e. (e ≡ ParsingError.Memory)

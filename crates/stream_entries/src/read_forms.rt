@@ -150,14 +150,14 @@ impl<T: Readable> Readable for TableOf<T> {
 pub(crate) struct ListOf<T>(PhantomData<T>);
 
 /// Whether each value has the shape.
-fn items_read<T: Readable>(values: &[Value]) -> bool
+fn are_items_readable<T: Readable>(values: &[Value]) -> bool
     ensures { result ≡ list_all (λ v. T.readable (tree v)) values.now }
 {
     values.iter().all(|value| T::reads(value))
 }
 
 /// Whether each pair, as a map of one pair, has the shape.
-fn singles_read<T: Readable>(entries: &[(Value, Value)]) -> bool
+fn are_singles_readable<T: Readable>(entries: &[(Value, Value)]) -> bool
     ensures { result ≡ list_all (λ e. T.readable (single (tree_of_pair e))) entries.now }
 {
     entries
@@ -172,9 +172,9 @@ impl<T: Readable> Readable for ListOf<T> {
     fn reads(v: &Value) -> bool {
         match v.into_contents() {
             Contents::Nothing => true,
-            Contents::Array(values) => items_read::<T>(values),
-            Contents::Set(values) => items_read::<T>(values),
-            Contents::Map(entries) => singles_read::<T>(entries),
+            Contents::Array(values) => are_items_readable::<T>(values),
+            Contents::Set(values) => are_items_readable::<T>(values),
+            Contents::Map(entries) => are_singles_readable::<T>(entries),
             Contents::Other => false,
         }
     }

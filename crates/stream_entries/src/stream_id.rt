@@ -104,7 +104,7 @@ impl PartialEq for StreamId {
         ensures by_parts { result ≡ same_entry self.now other.now }
         ensures equal_entries { IsTrue result ↔ (entry_meaning self.now ≡ entry_meaning other.now) }
     {
-        alike(self, other)
+        are_alike(self, other)
     }
 }
 
@@ -114,7 +114,7 @@ impl Eq for StreamId {
     ghost laws = { same_entry_laws };
 }
 
-fn alike(a: &StreamId, b: &StreamId) -> bool
+fn are_alike(a: &StreamId, b: &StreamId) -> bool
     ensures { result ≡ same_entry a.now b.now }
 {
     a.id == b.id

@@ -93,8 +93,8 @@ impl OpenStreams {
         let list: PairList<Entries> = row.read(alloc)?;
         let pairs = list.0;
         let all = ReadForms {
-            standard: all_have(&pairs, Form::Standard),
-            claim: all_have(&pairs, Form::Claim),
+            standard: have_form(&pairs, Form::Standard),
+            claim: have_form(&pairs, Form::Claim),
         };
         let forms = forms.and(all);
         push_table(&mut keys, index_map_of(alloc, pairs)?)?;
@@ -116,7 +116,7 @@ fn push_table(
 }
 
 /// Whether each list has the form.
-fn all_have(pairs: &[(String, Entries)], form: Form) -> bool
+fn have_form(pairs: &[(String, Entries)], form: Form) -> bool
     ensures { result ≡ list_all (λ p. is_some (held_in form (entries_held p.1))) pairs.now }
 {
     pairs.iter().all(|pair| pair.1.has(form))

@@ -9,16 +9,16 @@ pub returns-in-Ok-clause-ok : goal.returns-in-Ok-clause-ok
 returns-in-Ok-clause-ok g c =
     let t = g.S.Source.seen c.args.v in
     let ts = trees_left g.S.Source.values_left g.S.Source.pairs_left c.in-Some.rows in
-    IfOk-weaker c.reply_of.result _ _ (λ r h. reply_read t ts (streams_held c.in-Ok.streams)
-    (sym c.in-Some.ensures) c.in-Ok.ensures.ok ∙ h) c.reply_of.ensures.ok
+    IfOk-weaker c.make_reply.result _ _ (λ r h. reply_read t ts (streams_held c.in-Ok.streams)
+    (sym c.in-Some.ensures) c.in-Ok.ensures.ok ∙ h) c.make_reply.ensures.ok
 
 pub returns-in-Ok-clause-err : goal.returns-in-Ok-clause-err
 returns-in-Ok-clause-err g c =
     let t = g.S.Source.seen c.args.v in
     let ts = trees_left g.S.Source.values_left g.S.Source.pairs_left c.in-Some.rows in
     let some : 0 < length ts = search rules in
-    IfErr-weaker c.reply_of.result _ _ (λ e r. reply_refused t ts (streams_held c.in-Ok.streams) e
-    (sym c.in-Some.ensures) some c.in-Ok.ensures.ok r) c.reply_of.ensures.err
+    IfErr-weaker c.make_reply.result _ _ (λ e r. reply_refused t ts (streams_held c.in-Ok.streams) e
+    (sym c.in-Some.ensures) some c.in-Ok.ensures.ok r) c.make_reply.ensures.err
 
 pub returns-in-Err : goal.returns-in-Err
 returns-in-Err g c =
@@ -27,6 +27,6 @@ returns-in-Err g c =
     let some : 0 < length ts = search rules in
     record {
       ok = tt;
-      err = walk_refused t ts c.in-Err.error c.refusal_of.result
-          (sym c.in-Some.ensures) some c.in-Err.ensures.err c.refusal_of.ensures;
+      err = walk_refused t ts c.in-Err.error c.convert_error.result
+          (sym c.in-Some.ensures) some c.in-Err.ensures.err c.convert_error.ensures;
     }

@@ -9,5 +9,5 @@ returns-clause-ok g c =
     with_many c.args.self new c.in_ok-index_map_of.field-0.entries c.in_ok-list.list.0.items
     (g.S.Source.seen c.args.row) c.in_ok-list.ensures.ok c.in_ok-index_map_of.ensures.entries
     c.in_ok-push_table.ensures
-    (told_of_all Standard _ _ _ _ _ c.and-forms.ensures.standard c.all_have.ensures c.deref.ensures.value)
-    (told_of_all Claim _ _ _ _ _ c.and-forms.ensures.claim c.all_have-2.ensures c.deref-2.ensures.value)
+    (told_of_all Standard _ _ _ _ _ c.and-forms.ensures.standard c.have_form.ensures c.deref.ensures.value)
+    (told_of_all Claim _ _ _ _ _ c.and-forms.ensures.claim c.have_form-2.ensures c.deref-2.ensures.value)

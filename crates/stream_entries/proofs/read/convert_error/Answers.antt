@@ -1,5 +1,5 @@
 use Rattle.std.proofs.Common.{inl, inr, refl}
-use Rattle.stream_entries.proofs.read.refusal_of.Goals as goal
+use Rattle.stream_entries.proofs.read.convert_error.Goals as goal
 
 pub returns-in-Memory : goal.returns-in-Memory
 returns-in-Memory c = inl (c.in-Memory.is, refl)
