@@ -6,7 +6,7 @@ ghost use Rattle.redis_streams.specs.InfoMeaning.{consumer_meaning, consumers_me
 ghost use Rattle.redis_streams.specs.InfoRefusal.{RefusesConsumerField, RefusesConsumers, RefusesNamed};
 
 use crate::info::consumer::{StreamInfoConsumer, copy_consumers};
-use crate::info::named_fields::{named_fields, read_or, take_field};
+use crate::info::named_fields::{read_named_fields, read_or, take_field};
 use redis_resp::{FromRedisValue, ParsingError, Source, Value};
 use std::alloc::{AllocError, Global};
 use std::collections::HashMap;
@@ -48,7 +48,7 @@ struct ConsumerFields<S> {
 }
 
 /// Removes the fields of a consumer from the fields.
-fn consumer_fields<S: Source>(fields: &mut HashMap<String, S>) -> ConsumerFields<S>
+fn take_consumer_fields<S: Source>(fields: &mut HashMap<String, S>) -> ConsumerFields<S>
     ensures name { option_map S.seen result.name
         ≡ fields_by_name S.seen fields.old (codes "name") }
     ensures pending { option_map S.seen result.pending
@@ -73,7 +73,7 @@ fn read_consumer<S: Source>(
     ensures err { IfErr result (Refuses consumer_of_fields RefusesConsumerField
         (fields_by_name S.seen fields)) }
 {
-    let fields = consumer_fields(&mut fields);
+    let fields = take_consumer_fields(&mut fields);
     Ok(StreamInfoConsumer {
         name: read_or(alloc, fields.name, String::new(alloc))?,
         pending: read_or(alloc, fields.pending, 0)?,
@@ -92,7 +92,7 @@ fn read_row<S: Source>(alloc: Global, v: S) -> Result<Row, ParsingError>
     ensures err { IfErr result (Refuses consumer_reading (RefusesNamed RefusesConsumerField)
         (S.seen v)) }
 {
-    let fields = named_fields(alloc, v)?;
+    let fields = read_named_fields(alloc, v)?;
     Ok(Row(read_consumer(alloc, fields)?))
 }
 
@@ -115,7 +115,7 @@ impl FromRedisValue for Row {
 }
 
 /// Returns the reply of these rows. It fails only if it runs out of memory.
-fn reply_of(alloc: Global, rows: Vec<Row>) -> Result<StreamInfoConsumersReply, AllocError>
+fn make_reply(alloc: Global, rows: Vec<Row>) -> Result<StreamInfoConsumersReply, AllocError>
     ensures rows { IfOk result (λ r. consumers_meaning r
         ≡ map (λ row. consumer_meaning row.0) rows.items) }
     ensures room { IfOk result (λ r. vec_capacity r.consumers ≡ length rows.items) }
@@ -139,7 +139,7 @@ fn read_reply<S: Source>(alloc: Global, v: S) -> Result<StreamInfoConsumersReply
             consumers: Vec::new(alloc),
         });
     }
-    Ok(reply_of(alloc, rows)?)
+    Ok(make_reply(alloc, rows)?)
 }
 
 /// Read from a list of rows, each of fields by name. Returns `NotList` if the value is no list.

@@ -20,7 +20,7 @@ use stream_entries::StreamId;
 pub(crate) struct InfoEntry(pub(crate) StreamId);
 
 /// Returns an entry without delivery data.
-fn entry(id: String, map: HashMap<String, Value>) -> InfoEntry
+fn make_entry(id: String, map: HashMap<String, Value>) -> InfoEntry
     ensures { entry_meaning result.0 ≡ entry_of (string_bytes id, fields_of map) }
 {
     InfoEntry(StreamId {
@@ -36,7 +36,7 @@ impl InfoEntry {
     pub(crate) fn empty(alloc: Global) -> InfoEntry
         ensures { entry_meaning result.0 ≡ empty_entry }
     {
-        entry(String::new(alloc), HashMap::new(alloc))
+        make_entry(String::new(alloc), HashMap::new(alloc))
     }
 }
 
@@ -51,10 +51,10 @@ fn read_items<S: Source>(alloc: Global, mut items: S::Values) -> Result<InfoEntr
     };
     let id: String = id.read(alloc)?;
     let Some(fields) = S::next_value(&mut items) else {
-        return Ok(entry(id, HashMap::new(alloc)));
+        return Ok(make_entry(id, HashMap::new(alloc)));
     };
     let map: HashMap<String, Value> = fields.read(alloc)?;
-    Ok(entry(id, map))
+    Ok(make_entry(id, map))
 }
 
 /// Reads the entry of a value.

@@ -5,7 +5,7 @@ ghost use Rattle.redis_streams.specs.Info.{Group, empty_group, group_of, group_r
 ghost use Rattle.redis_streams.specs.InfoMeaning.{fields_by_name, group_meaning, groups_meaning};
 ghost use Rattle.redis_streams.specs.InfoRefusal.{RefusesGroupField, RefusesGroups, RefusesNamed};
 
-use crate::info::named_fields::{named_fields, read_or, take_field};
+use crate::info::named_fields::{read_named_fields, read_or, take_field};
 use crate::info::number_or_nil::NumberOrNil;
 use redis_resp::{FromRedisValue, ParsingError, Source, Value};
 use std::alloc::{AllocError, Global};
@@ -101,7 +101,7 @@ struct GroupFields<S> {
 }
 
 /// Removes the fields of a group from the fields.
-fn group_fields<S: Source>(fields: &mut HashMap<String, S>) -> GroupFields<S>
+fn take_group_fields<S: Source>(fields: &mut HashMap<String, S>) -> GroupFields<S>
     ensures name { option_map S.seen result.name
         ≡ fields_by_name S.seen fields.old (codes "name") }
     ensures consumers { option_map S.seen result.consumers
@@ -135,7 +135,7 @@ fn read_group<S: Source>(
     ensures err { IfErr result (Refuses group_of RefusesGroupField
         (fields_by_name S.seen fields)) }
 {
-    let fields = group_fields(&mut fields);
+    let fields = take_group_fields(&mut fields);
     let name = read_or(alloc, fields.name, String::new(alloc))?;
     let consumers = read_or(alloc, fields.consumers, 0)?;
     let pending = read_or(alloc, fields.pending, 0)?;
@@ -162,7 +162,7 @@ fn read_row<S: Source>(alloc: Global, v: S) -> Result<Row, ParsingError>
     ensures err { IfErr result (Refuses group_reading (RefusesNamed RefusesGroupField)
         (S.seen v)) }
 {
-    let fields = named_fields(alloc, v)?;
+    let fields = read_named_fields(alloc, v)?;
     Ok(Row(read_group(alloc, fields)?))
 }
 
@@ -185,7 +185,7 @@ impl FromRedisValue for Row {
 }
 
 /// Returns the reply of these rows. It fails only if it runs out of memory.
-fn reply_of(alloc: Global, rows: Vec<Row>) -> Result<StreamInfoGroupsReply, AllocError>
+fn make_reply(alloc: Global, rows: Vec<Row>) -> Result<StreamInfoGroupsReply, AllocError>
     ensures { IfOk result (λ r. groups_meaning r ≡ map (λ row. group_meaning row.0) rows.items) }
 {
     let mut groups = Vec::with_capacity(alloc, rows.len())?;
@@ -207,7 +207,7 @@ fn read_reply<S: Source>(alloc: Global, v: S) -> Result<StreamInfoGroupsReply, P
             groups: Vec::new(alloc),
         });
     }
-    Ok(reply_of(alloc, rows)?)
+    Ok(make_reply(alloc, rows)?)
 }
 
 /// Read from a list of rows, each of fields by name. Returns `NotList` if the value is no list.

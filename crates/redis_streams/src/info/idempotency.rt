@@ -6,7 +6,7 @@ ghost use Rattle.redis_streams.specs.Info.{TrackedStream, empty_tracked, stream_
 ghost use Rattle.redis_streams.specs.InfoMeaning.{fields_by_name, tracked_meaning};
 ghost use Rattle.redis_streams.specs.InfoRefusal.{RefusesStreamField, RefusesTracked, RefusesTrackedField};
 
-use crate::info::named_fields::{named_fields, read_or, take_field};
+use crate::info::named_fields::{read_named_fields, read_or, take_field};
 use crate::info::stream::{StreamInfoStreamReply, read_stream};
 use redis_resp::{FromRedisValue, ParsingError, Source, Value};
 use std::alloc::{AllocError, Global};
@@ -80,7 +80,7 @@ struct ProducerFields<S> {
 }
 
 /// Removes the fields of the producers from the fields.
-fn producer_fields<S: Source>(fields: &mut HashMap<String, S>) -> ProducerFields<S>
+fn take_producer_fields<S: Source>(fields: &mut HashMap<String, S>) -> ProducerFields<S>
     ensures idmp_duration { option_map S.seen result.idmp_duration
         ≡ fields_by_name S.seen fields.old (codes "idmp-duration") }
     ensures idmp_maxsize { option_map S.seen result.idmp_maxsize
@@ -119,7 +119,7 @@ fn read_tracked<S: Source>(
     ensures err { IfErr result (Refuses tracked_of RefusesTrackedField
         (fields_by_name S.seen fields)) }
 {
-    let producers = producer_fields(&mut fields);
+    let producers = take_producer_fields(&mut fields);
     let idmp_duration = read_or(alloc, producers.idmp_duration, 0)?;
     let idmp_maxsize = read_or(alloc, producers.idmp_maxsize, 0)?;
     let pids_tracked = read_or(alloc, producers.pids_tracked, 0)?;
@@ -146,7 +146,7 @@ fn read_reply<S: Source>(
     ensures ok { IfOk result (λ r. tracked_reading (S.seen v) ≡ Some (tracked_meaning r)) }
     ensures err { IfErr result (Refuses tracked_reading RefusesTracked (S.seen v)) }
 {
-    let fields = named_fields(alloc, v)?;
+    let fields = read_named_fields(alloc, v)?;
     read_tracked(alloc, fields)
 }
 

@@ -17,7 +17,7 @@ use std::collections::HashMap;
 
 /// Returns the fields of a value by name, each value as it is. Of a borrowed value only the keys
 /// are copied. Of equal names the last counts.
-pub(crate) fn named_fields<S: Source>(
+pub(crate) fn read_named_fields<S: Source>(
     alloc: Global,
     v: S,
 ) -> Result<HashMap<String, S>, ParsingError>

@@ -6,7 +6,7 @@ ghost use Rattle.redis_streams.specs.InfoMeaning.{fields_by_name, stream_info_me
 ghost use Rattle.redis_streams.specs.InfoRefusal.{RefusesStream, RefusesStreamField};
 
 use crate::info::entry::InfoEntry;
-use crate::info::named_fields::{named_fields, read_or, take_field};
+use crate::info::named_fields::{read_named_fields, read_or, take_field};
 use redis_resp::{FromRedisValue, ParsingError, Source, Value};
 use std::alloc::{AllocError, Global};
 use std::collections::HashMap;
@@ -78,7 +78,7 @@ struct StreamFields<S> {
 }
 
 /// Removes the fields of a stream from the fields.
-fn stream_fields<S: Source>(fields: &mut HashMap<String, S>) -> StreamFields<S>
+fn take_stream_fields<S: Source>(fields: &mut HashMap<String, S>) -> StreamFields<S>
     ensures last_generated_id { option_map S.seen result.last_generated_id
         ≡ fields_by_name S.seen fields.old (codes "last-generated-id") }
     ensures radix_tree_keys { option_map S.seen result.radix_tree_keys
@@ -115,7 +115,7 @@ pub(crate) fn read_stream<S: Source>(
     ensures err { IfErr result (Refuses stream_of RefusesStreamField
         (fields_by_name S.seen fields)) }
 {
-    let fields = stream_fields(&mut fields);
+    let fields = take_stream_fields(&mut fields);
     let id = read_or(alloc, fields.last_generated_id, String::new(alloc))?;
     let radix_tree_keys = read_or(alloc, fields.radix_tree_keys, 0)?;
     let radix_tree_nodes = read_or(alloc, fields.radix_tree_nodes, 0)?;
@@ -139,7 +139,7 @@ fn read_reply<S: Source>(alloc: Global, v: S) -> Result<StreamInfoStreamReply, P
     ensures ok { IfOk result (λ r. stream_reading (S.seen v) ≡ Some (stream_info_meaning r)) }
     ensures err { IfErr result (Refuses stream_reading RefusesStream (S.seen v)) }
 {
-    let fields = named_fields(alloc, v)?;
+    let fields = read_named_fields(alloc, v)?;
     read_stream(alloc, fields)
 }
 

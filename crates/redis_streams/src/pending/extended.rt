@@ -90,7 +90,7 @@ fn is_bulk_string(v: &Value) -> bool
 
 /// Returns a whole number with no attribute around it as one of 64 bits without a sign: a negative
 /// one is itself plus 2 ^ 64.
-fn number_of(v: &Value) -> Option<usize>
+fn read_number(v: &Value) -> Option<usize>
     ensures { result ≡ literal_number (tree v.now) }
 {
     match v {
@@ -101,7 +101,7 @@ fn number_of(v: &Value) -> Option<usize>
 
 /// Returns the two numbers of a row of two bulk strings and two `Int`s, or `None` if a member has
 /// another kind.
-fn numbers_of(
+fn read_numbers(
     id: &Value,
     consumer: &Value,
     elapsed: &Value,
@@ -115,8 +115,8 @@ fn numbers_of(
     ) }
 {
     if is_bulk_string(id) && is_bulk_string(consumer) {
-        let elapsed = number_of(elapsed)?;
-        let delivered = number_of(delivered)?;
+        let elapsed = read_number(elapsed)?;
+        let delivered = read_number(delivered)?;
         Some((elapsed, delivered))
     } else {
         None
@@ -141,7 +141,7 @@ fn read_members<S: Source>(
     ensures err { IfErr result (Refuses entry_of_members RefusesMembers
         (S.seen id, S.seen consumer, S.seen elapsed, S.seen delivered)) }
 {
-    let Some((last_delivered_ms, times_delivered)) = numbers_of(
+    let Some((last_delivered_ms, times_delivered)) = read_numbers(
         id.as_value(),
         consumer.as_value(),
         elapsed.as_value(),

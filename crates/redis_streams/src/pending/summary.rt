@@ -92,7 +92,7 @@ type Parts = (usize, Option<String>, Option<String>, Vec<Row>);
 
 /// Returns the consumer of a row. Its pending entries are 0 if its text is no number.
 /// It allocates no memory.
-fn consumer_of_row(name: String, count: String) -> StreamInfoConsumer
+fn make_consumer(name: String, count: String) -> StreamInfoConsumer
     ensures { consumer_meaning result ≡ consumer_of (string_bytes name, string_bytes count) }
 {
     StreamInfoConsumer {
@@ -112,7 +112,7 @@ fn read_consumers(alloc: Global, rows: Vec<Row>) -> Result<Vec<StreamInfoConsume
         let Some((name, count)) = row else {
             continue;
         };
-        consumers.push(consumer_of_row(name, count))?;
+        consumers.push(make_consumer(name, count))?;
     }
     Ok(consumers)
 }

@@ -10,7 +10,7 @@ ghost use Rattle.redis_streams.specs.InfoMeaning.{fields_by_name};
 
 use crate::info::full::pending::{StreamInfoConsumerPending, copy_own_pending};
 use crate::info::full::time_or_nil::TimeOrNil;
-use crate::info::named_fields::{named_fields, read_or, take_field};
+use crate::info::named_fields::{read_named_fields, read_or, take_field};
 use redis_resp::{FromRedisValue, ParsingError, Source, Value};
 use std::alloc::{AllocError, Global};
 use std::collections::HashMap;
@@ -86,7 +86,7 @@ struct FullConsumerFields<S> {
 }
 
 /// Removes the fields of a consumer from the fields.
-fn full_consumer_fields<S: Source>(fields: &mut HashMap<String, S>) -> FullConsumerFields<S>
+fn take_full_consumer_fields<S: Source>(fields: &mut HashMap<String, S>) -> FullConsumerFields<S>
     ensures name { option_map S.seen result.name
         ≡ fields_by_name S.seen fields.old (codes "name") }
     ensures seen_time { option_map S.seen result.seen_time
@@ -117,7 +117,7 @@ fn read_full_consumer<S: Source>(
     ensures err { IfErr result (Refuses full_consumer_of RefusesFullConsumerField
         (fields_by_name S.seen fields)) }
 {
-    let fields = full_consumer_fields(&mut fields);
+    let fields = take_full_consumer_fields(&mut fields);
     let name = read_or(alloc, fields.name, String::new(alloc))?;
     let seen_time = read_or(alloc, fields.seen_time, 0)?;
     let active_time = read_or(alloc, fields.active_time, TimeOrNil(None))?;
@@ -138,7 +138,7 @@ fn read_value<S: Source>(alloc: Global, v: S) -> Result<StreamInfoFullConsumer, 
         ≡ Some (full_consumer_meaning r)) }
     ensures err { IfErr result (Refuses full_consumer_reading RefusesFullConsumer (S.seen v)) }
 {
-    let fields = named_fields(alloc, v)?;
+    let fields = read_named_fields(alloc, v)?;
     read_full_consumer(alloc, fields)
 }
 

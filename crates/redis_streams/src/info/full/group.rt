@@ -9,7 +9,7 @@ ghost use Rattle.redis_streams.specs.InfoMeaning.{fields_by_name};
 
 use crate::info::full::consumer::{StreamInfoFullConsumer, copy_full_consumers};
 use crate::info::full::pending::{StreamInfoFullPending, copy_pending};
-use crate::info::named_fields::{named_fields, read_or, take_field};
+use crate::info::named_fields::{read_named_fields, read_or, take_field};
 use crate::info::number_or_nil::NumberOrNil;
 use redis_resp::{FromRedisValue, ParsingError, Source, Value};
 use std::alloc::{AllocError, Global};
@@ -95,7 +95,7 @@ struct FullGroupFields<S> {
 }
 
 /// Removes the fields of a group from the fields.
-fn full_group_fields<S: Source>(fields: &mut HashMap<String, S>) -> FullGroupFields<S>
+fn take_full_group_fields<S: Source>(fields: &mut HashMap<String, S>) -> FullGroupFields<S>
     ensures name { option_map S.seen result.name
         ≡ fields_by_name S.seen fields.old (codes "name") }
     ensures last_delivered_id { option_map S.seen result.last_delivered_id
@@ -132,7 +132,7 @@ fn read_full_group<S: Source>(
     ensures err { IfErr result (Refuses full_group_of RefusesFullGroupField
         (fields_by_name S.seen fields)) }
 {
-    let fields = full_group_fields(&mut fields);
+    let fields = take_full_group_fields(&mut fields);
     let name = read_or(alloc, fields.name, String::new(alloc))?;
     let id = read_or(alloc, fields.last_delivered_id, String::new(alloc))?;
     let read = read_or(alloc, fields.entries_read, NumberOrNil(None))?;
@@ -156,7 +156,7 @@ fn read_value<S: Source>(alloc: Global, v: S) -> Result<StreamInfoFullGroup, Par
     ensures ok { IfOk result (λ r. full_group_reading (S.seen v) ≡ Some (full_group_meaning r)) }
     ensures err { IfErr result (Refuses full_group_reading RefusesFullGroup (S.seen v)) }
 {
-    let fields = named_fields(alloc, v)?;
+    let fields = read_named_fields(alloc, v)?;
     read_full_group(alloc, fields)
 }
 

@@ -9,7 +9,7 @@ ghost use Rattle.redis_streams.specs.InfoMeaning.{fields_by_name};
 
 use crate::info::full::entry::{StreamInfoFullEntry, copy_entries};
 use crate::info::full::group::{StreamInfoFullGroup, copy_full_groups};
-use crate::info::named_fields::{named_fields, read_or, take_field};
+use crate::info::named_fields::{read_named_fields, read_or, take_field};
 use crate::info::number_or_nil::NumberOrNil;
 use redis_resp::{FromRedisValue, ParsingError, Source, Value};
 use std::alloc::{AllocError, Global};
@@ -94,7 +94,7 @@ struct FullFields<S> {
 }
 
 /// Removes the fields of a stream from the fields.
-fn full_fields<S: Source>(fields: &mut HashMap<String, S>) -> FullFields<S>
+fn take_full_fields<S: Source>(fields: &mut HashMap<String, S>) -> FullFields<S>
     ensures length { option_map S.seen result.length
         ≡ fields_by_name S.seen fields.old (codes "length") }
     ensures radix_tree_keys { option_map S.seen result.radix_tree_keys
@@ -137,7 +137,7 @@ fn read_full<S: Source>(
     ensures err { IfErr result (Refuses full_stream_of RefusesFullField
         (fields_by_name S.seen fields)) }
 {
-    let fields = full_fields(&mut fields);
+    let fields = take_full_fields(&mut fields);
     let length = read_or(alloc, fields.length, 0)?;
     let radix_tree_keys = read_or(alloc, fields.radix_tree_keys, 0)?;
     let radix_tree_nodes = read_or(alloc, fields.radix_tree_nodes, 0)?;
@@ -165,7 +165,7 @@ fn read_reply<S: Source>(alloc: Global, v: S) -> Result<StreamInfoFullReply, Par
     ensures ok { IfOk result (λ r. full_reading (S.seen v) ≡ Some (full_meaning r)) }
     ensures err { IfErr result (Refuses full_reading RefusesFull (S.seen v)) }
 {
-    let fields = named_fields(alloc, v)?;
+    let fields = read_named_fields(alloc, v)?;
     read_full(alloc, fields)
 }
 

@@ -12,6 +12,6 @@ returns-in_err-base-clause-err g c =
     let why = c.in_err-base.ensures.err in
     passed_on
     (Refuses tracked_of RefusesTrackedField fields) c.in_err-base.field-0.0 _ c.from_residual-in_err-base.ensures.1 (
-      inr (inr (inr (inr (inr (inr (c.producer_fields-producers.ensures.refused _ why.0)))))),
-      λ h. no_base fields (sym c.producer_fields-producers.ensures.stream ∙ why.1 h),
+      inr (inr (inr (inr (inr (inr (c.take_producer_fields-producers.ensures.refused _ why.0)))))),
+      λ h. no_base fields (sym c.take_producer_fields-producers.ensures.stream ∙ why.1 h),
     )

@@ -16,5 +16,5 @@ returns-in_err-consumers-clause-err g c =
     c.from_residual-in_err-consumers.ensures.1
     (refused_by_consumers fields _ _ c.in_err-consumers.field-0.0
     (ap
-    (map full_consumer_meaning) c.new-4.ensures.items) c.full_group_fields-fields.ensures.consumers
+    (map full_consumer_meaning) c.new-4.ensures.items) c.take_full_group_fields-fields.ensures.consumers
     c.in_err-consumers.ensures.err)

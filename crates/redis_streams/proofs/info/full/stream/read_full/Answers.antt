@@ -16,4 +16,5 @@ returns-in_err-groups-clause-err g c =
     c.from_residual-in_err-groups.ensures.1
     (refused_by_groups fields _ _ c.in_err-groups.field-0.0
     (ap
-    (map full_group_meaning) c.new-5.ensures.items) c.full_fields-fields.ensures.groups c.in_err-groups.ensures.err)
+    (map full_group_meaning) c.new-5.ensures.items) c.take_full_fields-fields.ensures.groups
+    c.in_err-groups.ensures.err)

@@ -4,7 +4,7 @@ use Rattle.redis_resp.specs.Reading.{traverse}
 use Rattle.redis_resp.specs.Source.{all_left}
 use Rattle.redis_resp.specs.Table.{entry_reading}
 use Rattle.redis_streams.proofs.InfoLemmas.{fields_of_pairs, no_fields}
-use Rattle.redis_streams.proofs.info.named_fields.named_fields.Goals as goal
+use Rattle.redis_streams.proofs.info.named_fields.read_named_fields.Goals as goal
 
 pub returns-in_ok-hash_map_of-in-Some-clause-ok : goal.returns-in_ok-hash_map_of-in-Some-clause-ok
 returns-in_ok-hash_map_of-in-Some-clause-ok g c =

@@ -1,7 +1,7 @@
 use Rattle.std.proofs.Common.{◌≡◌, ◌++◌, map, length}
 use Rattle.std.specs.Vec.Iter.{into_iter_items, into_iter_len}
 use Rattle.redis_streams.specs.InfoMeaning.{group_meaning}
-use Rattle.redis_streams.proofs.info.groups.reply_of.Given as goal
+use Rattle.redis_streams.proofs.info.groups.make_reply.Given as goal
 
 abbrev pub invariant-loop-row : goal.invariant-loop-row
 invariant-loop-row l = record {

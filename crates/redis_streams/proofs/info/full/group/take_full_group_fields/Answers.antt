@@ -1,4 +1,4 @@
-use Rattle.redis_streams.proofs.info.full.group.full_group_fields.Goals as goal
+use Rattle.redis_streams.proofs.info.full.group.take_full_group_fields.Goals as goal
 
 pub returns-clause-entries_read : goal.returns-clause-entries_read
 returns-clause-entries_read g c =

@@ -1,4 +1,4 @@
-use Rattle.redis_streams.proofs.info.idempotency.producer_fields.Goals as goal
+use Rattle.redis_streams.proofs.info.idempotency.take_producer_fields.Goals as goal
 
 pub returns-clause-idmp_maxsize : goal.returns-clause-idmp_maxsize
 returns-clause-idmp_maxsize g c =

@@ -1,4 +1,4 @@
-use Rattle.redis_streams.proofs.info.stream.stream_fields.Goals as goal
+use Rattle.redis_streams.proofs.info.stream.take_stream_fields.Goals as goal
 
 pub returns-clause-first_entry : goal.returns-clause-first_entry
 returns-clause-first_entry g c =

@@ -2,7 +2,7 @@ use Rattle.std.proofs.Common.{ℕ, string_bytes, ap, ◌∙◌}
 use Rattle.redis_streams.specs.Info.{Consumer}
 use Rattle.redis_streams.specs.Pending.{number_in}
 use Rattle.redis_streams.proofs.PendingLemmas.{number_parsed}
-use Rattle.redis_streams.proofs.pending.summary.consumer_of_row.Goals as goal
+use Rattle.redis_streams.proofs.pending.summary.make_consumer.Goals as goal
 
 pub returns : goal.returns
 returns c =

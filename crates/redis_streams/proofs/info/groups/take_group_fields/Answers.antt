@@ -1,4 +1,4 @@
-use Rattle.redis_streams.proofs.info.groups.group_fields.Goals as goal
+use Rattle.redis_streams.proofs.info.groups.take_group_fields.Goals as goal
 
 pub returns-clause-entries_read : goal.returns-clause-entries_read
 returns-clause-entries_read g c =

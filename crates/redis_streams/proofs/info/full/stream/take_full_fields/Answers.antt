@@ -1,4 +1,4 @@
-use Rattle.redis_streams.proofs.info.full.stream.full_fields.Goals as goal
+use Rattle.redis_streams.proofs.info.full.stream.take_full_fields.Goals as goal
 
 pub returns-clause-recorded_first_entry_id : goal.returns-clause-recorded_first_entry_id
 returns-clause-recorded_first_entry_id g c =

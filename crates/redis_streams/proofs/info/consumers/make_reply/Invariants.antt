@@ -2,7 +2,7 @@ use Rattle.std.proofs.Common.{◌≡◌, ◌++◌, ◌+◌, map, length}
 use Rattle.std.specs.Vec.{vec_capacity, vec_len}
 use Rattle.std.specs.Vec.Iter.{into_iter_items, into_iter_len}
 use Rattle.redis_streams.specs.InfoMeaning.{consumer_meaning}
-use Rattle.redis_streams.proofs.info.consumers.reply_of.Given as goal
+use Rattle.redis_streams.proofs.info.consumers.make_reply.Given as goal
 
 abbrev pub invariant-loop-row : goal.invariant-loop-row
 invariant-loop-row l = record {
