@@ -24,7 +24,7 @@ pub fn entry_in(alloc: Global, line: &[u8]) -> Result<Option<LineEntry>, AllocEr
     ensures { IfOk result (λ o. IsEntryIn line.now (option_map entry_of o)) }
 {
     let texts = split_line(alloc, line)?;
-    let Some(entry) = entry_of_texts(alloc, texts)? else {
+    let Some(entry) = make_entry(alloc, texts)? else {
         return Ok(None);
     };
     let mut written = Vec::with_capacity(alloc, line.len())?;
@@ -73,7 +73,7 @@ fn take_byte(
         ≡ one_more (texts_now texts.old text.old escapes) byte) }
 {
     if escapes {
-        text.push(plain_byte(byte))?;
+        text.push(unescape_byte(byte))?;
         return Ok(false);
     }
     match byte {
@@ -85,7 +85,7 @@ fn take_byte(
 }
 
 /// Returns the byte of an escape, by the byte after its backslash.
-fn plain_byte(byte: u8) -> u8
+fn unescape_byte(byte: u8) -> u8
     ensures { result ≡ byte_of byte }
 {
     match byte {
@@ -98,7 +98,7 @@ fn plain_byte(byte: u8) -> u8
 
 /// Returns the entry of these texts: an id, and names and values by turns. Returns `None` if the last name has
 /// no value.
-fn entry_of_texts(alloc: Global, texts: Vec<Vec<u8>>) -> Result<Option<LineEntry>, AllocError>
+fn make_entry(alloc: Global, texts: Vec<Vec<u8>>) -> Result<Option<LineEntry>, AllocError>
     ensures { IfOk result (λ o. option_map entry_of o ≡ entry_of_list (bytes_of texts.items)) }
 {
     let mut rest = texts.into_iter();

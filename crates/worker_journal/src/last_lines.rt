@@ -25,7 +25,7 @@ pub fn last_lines_in<D: LogFile>(
         (λ bytes. bytes_of lines.items ≡ last_of number (lines_of bytes))) }
 {
     let from = find_last_start(alloc, file, len, number)?;
-    lines_from(alloc, file, from, len)
+    read_lines(alloc, file, from, len)
 }
 
 /// Returns the offset of the last `number` lines of the first `len` bytes of a file. Reads the file from its
@@ -44,7 +44,7 @@ fn find_last_start<D: LogFile>(
     while at > 0 {
         let from = at.saturating_sub(PIECE);
         let piece = file.read_at(alloc, from, at - from)?;
-        if let Some(start) = start_within(&piece, &mut left) {
+        if let Some(start) = find_start(&piece, &mut left) {
             return Ok(from + start);
         }
         at = from;
@@ -54,7 +54,7 @@ fn find_last_start<D: LogFile>(
 
 /// Returns the offset of the last `left` lines of these bytes, if the end of a line is before them. Otherwise
 /// subtracts the number of lines that end in these bytes from `left`.
-fn start_within(bytes: &[u8], left: &mut usize) -> Option<usize>
+fn find_start(bytes: &[u8], left: &mut usize) -> Option<usize>
     ensures within { IfSome result (λ at. (0 < at) × (at ≤ length bytes.now)) }
     ensures start { IfSome result (λ at. AreLines (take at bytes.now)
         × (length (lines_of (drop at bytes.now)) ≡ left.old)) }
@@ -74,7 +74,7 @@ fn start_within(bytes: &[u8], left: &mut usize) -> Option<usize>
 }
 
 /// Returns the lines from this offset on, among the first `len` bytes of a file, without line feeds.
-fn lines_from<D: LogFile>(
+fn read_lines<D: LogFile>(
     alloc: Global,
     file: &D,
     from: usize,

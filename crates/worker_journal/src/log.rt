@@ -182,7 +182,7 @@ impl<D: LogFile + Drop> LineLog<D> {
     {
         let committed = len.min(self.len.saturating_sub(at));
         let mut read = self.file.read_at(alloc, at, committed)?;
-        let gathered = part(&self.batch, at.saturating_sub(self.len), len - committed);
+        let gathered = take_part(&self.batch, at.saturating_sub(self.len), len - committed);
         read.extend_from_slice(gathered)?;
         Ok(read)
     }
@@ -196,7 +196,7 @@ impl<D: LogFile + Drop> LineLog<D> {
 }
 
 /// Returns `len` of these bytes from an offset on, or fewer at the end.
-fn part(bytes: &[u8], at: usize, len: usize) -> &[u8]
+fn take_part(bytes: &[u8], at: usize, len: usize) -> &[u8]
     ensures { result.now ≡ take len (drop at bytes.now) }
 {
     let (_front, rest) = bytes.split_at(at.min(bytes.len()));

@@ -11,7 +11,7 @@ use std::alloc::Global;
 const PIECE: usize = 65_536;
 
 /// Returns the index after the last line feed of these bytes, or 0 if there is none.
-fn last_end(bytes: &[u8]) -> usize
+fn find_last_end(bytes: &[u8]) -> usize
     ensures within { result ≤ length bytes.now }
     ensures lines { AreLines (take result bytes.now) }
     ensures torn { HasNoEnd (drop result bytes.now) }
@@ -32,7 +32,7 @@ fn measure_lines<D: LogFile>(alloc: Global, file: &D) -> Result<usize, LogError>
     while at > 0 {
         let from = at.saturating_sub(PIECE);
         let piece = file.read_at(alloc, from, at - from)?;
-        let end = last_end(&piece);
+        let end = find_last_end(&piece);
         if end > 0 {
             return Ok(from + end);
         }

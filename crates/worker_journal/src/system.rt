@@ -43,13 +43,13 @@ impl SystemFile {
             }
             Err(TryLockError::Error(error)) => return Err(LogError::File(error)),
         }
-        sync_folder_of(rt, path)?;
+        sync_folder(rt, path)?;
         Ok(SystemFile { file })
     }
 }
 
 /// Syncs the folder of a new file, so that its name is on the disk.
-fn sync_folder_of<R: Files<File = File>>(rt: &R, path: &str) -> io::Result<()> {
+fn sync_folder<R: Files<File = File>>(rt: &R, path: &str) -> io::Result<()> {
     let folder = match Path::new(path).parent() {
         Some(folder) if !folder.as_str().is_empty() => folder,
         _ => Path::new("."),

@@ -39,14 +39,14 @@ struct Content {
 }
 
 /// Returns a copy of the first `len` of these bytes.
-fn first(alloc: Global, bytes: &[u8], len: usize) -> Result<Vec<u8>, AllocError>
+fn copy_first(alloc: Global, bytes: &[u8], len: usize) -> Result<Vec<u8>, AllocError>
     ensures { IfOk result (λ first. first.items ≡ take len bytes.now) }
 {
     bytes.iter().take(len).copied().collect(alloc)
 }
 
 /// Returns a copy of the bytes after the first `len`.
-fn rest(alloc: Global, bytes: &[u8], len: usize) -> Result<Vec<u8>, AllocError>
+fn copy_rest(alloc: Global, bytes: &[u8], len: usize) -> Result<Vec<u8>, AllocError>
     ensures { IfOk result (λ rest. rest.items ≡ drop len bytes.now) }
 {
     bytes.iter().skip(len).copied().collect(alloc)
@@ -54,7 +54,7 @@ fn rest(alloc: Global, bytes: &[u8], len: usize) -> Result<Vec<u8>, AllocError>
 
 impl Content {
     /// Returns a content whose bytes are all on the disk.
-    fn synced(alloc: Global, front: Vec<u8>) -> Content
+    fn make_synced(alloc: Global, front: Vec<u8>) -> Content
         ensures { IsSynced result front.items }
     {
         Content {
@@ -78,7 +78,7 @@ impl Content {
     }
 
     /// Returns the bytes that a read returns.
-    fn all(&self, alloc: Global) -> Result<Vec<u8>, AllocError>
+    fn copy_all(&self, alloc: Global) -> Result<Vec<u8>, AllocError>
         ensures { IfOk result (λ all. all.items ≡ all_of self.now) }
     {
         let mut all = self.front.to_vec(alloc)?;
@@ -87,7 +87,7 @@ impl Content {
     }
 
     /// Returns a copy with these bytes appended and not synced.
-    fn appended(&self, alloc: Global, bytes: &[u8]) -> Result<Content, AllocError>
+    fn append_bytes(&self, alloc: Global, bytes: &[u8]) -> Result<Content, AllocError>
         ensures seen { IfOk result (λ next. all_of next ≡ all_of self.now ++ bytes.now) }
         ensures crash { IfOk result (λ next.
             Follows (IsTorn (length bytes.now)) (Leaves self.now) (Leaves next)) }
@@ -116,8 +116,8 @@ impl Content {
         ensures seen { IfOk result (λ next. all_of next ≡ take len (all_of self.now)) }
         ensures crash { IfOk result (λ next. Follows (IsCut len) (Leaves self.now) (Leaves next)) }
     {
-        let front = first(alloc, &self.front, len)?;
-        let mut cut_off = rest(alloc, &self.front, len)?;
+        let front = copy_first(alloc, &self.front, len)?;
+        let mut cut_off = copy_rest(alloc, &self.front, len)?;
         cut_off.extend_from_slice(&self.cut_off)?;
         Ok(Content {
             front,
@@ -170,7 +170,7 @@ impl TornFile {
     {
         TornFile {
             alloc,
-            content: Content::synced(alloc, bytes),
+            content: Content::make_synced(alloc, bytes),
             is_sound: true,
             failing: 0,
             past: Vec::new(alloc),
@@ -211,9 +211,9 @@ impl TornFile {
     {
         let room = self.content.waits.len().saturating_add(self.content.extra);
         let mut left = self.content.front.to_vec(self.alloc)?;
-        left.extend_from_slice(&first(self.alloc, &self.content.cut_off, uncut)?)?;
-        left.extend_from_slice(&first(self.alloc, behind, room)?)?;
-        self.content = Content::synced(self.alloc, left);
+        left.extend_from_slice(&copy_first(self.alloc, &self.content.cut_off, uncut)?)?;
+        left.extend_from_slice(&copy_first(self.alloc, behind, room)?)?;
+        self.content = Content::make_synced(self.alloc, left);
         self.past = Vec::new(self.alloc);
         self.is_sound = true;
         Ok(())
@@ -238,16 +238,16 @@ impl LogFile for TornFile {
     ghost only_now = { λ f c left. only_now f.past.items f.content c left };
 
     fn len(&self) -> Result<usize, LogError> {
-        Ok(self.content.all(self.alloc)?.len())
+        Ok(self.content.copy_all(self.alloc)?.len())
     }
 
     fn read_at(&self, alloc: Global, at: usize, len: usize) -> Result<Vec<u8>, LogError> {
-        let all = self.content.all(alloc)?;
+        let all = self.content.copy_all(alloc)?;
         Ok(all.iter().skip(at).take(len).copied().collect(alloc)?)
     }
 
     fn append(&mut self, bytes: &[u8]) -> Result<(), LogError> {
-        let next = self.content.appended(self.alloc, bytes)?;
+        let next = self.content.append_bytes(self.alloc, bytes)?;
         Ok(replace(self.alloc, &mut self.content, &mut self.past, next)?)
     }
 
@@ -269,7 +269,7 @@ impl LogFile for TornFile {
         if !self.is_sound {
             return Ok(());
         }
-        let next = Content::synced(self.alloc, self.content.all(self.alloc)?);
+        let next = Content::make_synced(self.alloc, self.content.copy_all(self.alloc)?);
         Ok(replace(self.alloc, &mut self.content, &mut self.past, next)?)
     }
 }

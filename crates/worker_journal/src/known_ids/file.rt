@@ -45,7 +45,7 @@ pub fn numbers_of_file<D: LogFile>(
     let mut at = 0;
     while at < len {
         let left = len - at;
-        let piece = next_piece(alloc, file, at, left)?;
+        let piece = read_piece(alloc, file, at, left)?;
         take_piece(&mut ids, &mut start, &mut line, &piece, json)?;
         at += PIECE.min(left);
     }
@@ -53,7 +53,7 @@ pub fn numbers_of_file<D: LogFile>(
 }
 
 /// Reads a piece at `at`, or the `left` remaining bytes if they are fewer than a piece.
-fn next_piece<D: LogFile>(
+fn read_piece<D: LogFile>(
     alloc: Global,
     file: &D,
     at: usize,
@@ -123,14 +123,14 @@ fn take_id(
     let Some(number) = line_number(line, json) else {
         return Err(FileError::NoEntry((ids.len() as u64).saturating_add(1)));
     };
-    let next = behind(*start, line.len())?;
+    let next = find_next_start(*start, line.len())?;
     ids.push(KnownId::new(number, *start))?;
     *start = next;
     Ok(())
 }
 
 /// Returns the offset after a line of this length and its line feed.
-fn behind(start: usize, len: usize) -> Result<usize, FileError>
+fn find_next_start(start: usize, len: usize) -> Result<usize, FileError>
     ensures { IfOk result (λ next. next ≡ start + suc len) }
 {
     match start.saturating_add(len).checked_add(1) {

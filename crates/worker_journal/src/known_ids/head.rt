@@ -2,7 +2,7 @@
 ghost use Rattle.std.specs.Prelude.{◌≡◌, option_map};
 ghost use Rattle.worker_journal.specs.KnownIds.Told.{id_of_json, line_number};
 
-use crate::known_ids::number::{len_before, number_of};
+use crate::known_ids::number::{count_before, number_of};
 
 const JSON_HEAD: &[u8] = b"{\"id\":\"";
 
@@ -15,18 +15,18 @@ pub fn line_number(line: &[u8], json: bool) -> Option<u128>
     ensures { result ≡ line_number json line.now }
 {
     if json {
-        number_of(id_of_json(line)?)
+        number_of(find_id(line)?)
     } else {
-        number_of(&line[..len_before(line, b'\t')])
+        number_of(&line[..count_before(line, b'\t')])
     }
 }
 
 /// Returns the id in a line of JSON.
-fn id_of_json(line: &[u8]) -> Option<&[u8]>
+fn find_id(line: &[u8]) -> Option<&[u8]>
     ensures { option_map (λ id. id.now) result ≡ id_of_json line.now }
 {
     let rest = line.strip_prefix(JSON_HEAD)?;
-    let (id, behind) = rest.split_at(len_before(rest, b'"'));
+    let (id, behind) = rest.split_at(count_before(rest, b'"'));
     let _fields = behind.strip_prefix(JSON_NEXT)?;
     Some(id)
 }

@@ -13,24 +13,24 @@ use redis_resp::unsigned_in;
 pub fn number_of(text: &[u8]) -> Option<u128>
     ensures { result ≡ number_of text.now }
 {
-    let (ms, behind) = text.split_at(len_before(text, b'-'));
-    let ms = part_of(ms)?;
-    let seq = seq_of(behind)?;
+    let (ms, behind) = text.split_at(count_before(text, b'-'));
+    let ms = parse_part(ms)?;
+    let seq = parse_seq(behind)?;
     Some(ms as u128 * 18_446_744_073_709_551_616 + seq as u128)
 }
 
 /// Returns the sequence number. The text is what follows the milliseconds: a hyphen and the number.
-fn seq_of(behind: &[u8]) -> Option<u64>
+fn parse_seq(behind: &[u8]) -> Option<u64>
     ensures { result ≡ seq_of behind.now }
 {
     match behind {
         [] => None,
-        [_, seq @ ..] => part_of(seq),
+        [_, seq @ ..] => parse_part(seq),
     }
 }
 
 /// Returns the number of one part of an id.
-fn part_of(text: &[u8]) -> Option<u64>
+fn parse_part(text: &[u8]) -> Option<u64>
     ensures { result ≡ part_of text.now }
 {
     let number = unsigned_in(text)?;
@@ -42,7 +42,7 @@ fn part_of(text: &[u8]) -> Option<u64>
 }
 
 /// Returns how many bytes are before the first byte `end`.
-pub(crate) fn len_before(text: &[u8], end: u8) -> usize
+pub(crate) fn count_before(text: &[u8], end: u8) -> usize
     ensures count { result ≡ prefix_len (is_other end) text.now }
     ensures within { result ≤ length text.now }
 {

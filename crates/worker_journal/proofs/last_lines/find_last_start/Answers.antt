@@ -15,7 +15,7 @@ pub loop-at-preserved : goal.loop-at-preserved
 loop-at-preserved g c = record {
   within = omega (arith, c.saturating_sub-from.ensures, c.loop-at.invariant.within);
   count = none_more (g.D.LogFile.seen c.args.file.now) c.args.len c.loop-at.at c.saturating_sub-from.result
-      (c.loop-at.at - c.saturating_sub-from.result) c.loop-at.left c.start_within.new.left c.args.number
+      (c.loop-at.at - c.saturating_sub-from.result) c.loop-at.left c.find_start.new.left c.args.number
       c.in_ok-piece.piece.items (omega (arith, c.saturating_sub-from.ensures)) c.loop-at.invariant.within
       c.in_ok-piece.ensures.bytes (rw c.deref.ensures.value at (c.in_default.ensures.none refl)) c.loop-at.invariant.count;
 }

@@ -1,7 +1,7 @@
 use Rattle.std.proofs.Common.{◌+◌, refl, arith}
 use Rattle.worker_journal.specs.LastLines.{begun_now}
 use Rattle.worker_journal.proofs.LastLinesLemmas.{takes_all, takes_more}
-use Rattle.worker_journal.proofs.last_lines.lines_from.Goals as goal
+use Rattle.worker_journal.proofs.last_lines.read_lines.Goals as goal
 
 pub loop-at-preserved : goal.loop-at-preserved
 loop-at-preserved g c =

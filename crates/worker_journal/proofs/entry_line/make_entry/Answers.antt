@@ -3,7 +3,7 @@ use Rattle.std.proofs.lemmas.Grind.{common_steps}
 use Rattle.std.specs.Vec.Iter.{into_iter_items}
 use Rattle.worker_journal.specs.EntryLineMeaning.{field_of}
 use Rattle.worker_journal.proofs.LineTextsLemmas.{pairs_step}
-use Rattle.worker_journal.proofs.entry_line.entry_of_texts.Goals as goal
+use Rattle.worker_journal.proofs.entry_line.make_entry.Goals as goal
 
 pub loop-name-preserved : goal.loop-name-preserved
 loop-name-preserved c =

@@ -1,6 +1,6 @@
 use Rattle.std.proofs.Common.{◌≡◌, ◌++◌, rules}
 use Rattle.worker_journal.proofs.TornLemmas.{append_tears}
-use Rattle.worker_journal.proofs.torn.Content.appended.Goals as goal
+use Rattle.worker_journal.proofs.torn.Content.append_bytes.Goals as goal
 
 pub returns-clause-crash : goal.returns-clause-crash
 returns-clause-crash c =

@@ -3,7 +3,7 @@ use Rattle.std.specs.Vec.Iter.{into_iter_items, into_iter_len}
 use Rattle.worker_journal.specs.EntryLineMeaning.{field_of}
 use Rattle.worker_journal.specs.LineTexts.{bytes_of, two_by_two}
 use Rattle.worker_journal.proofs.LineTextsLemmas.{pairs_behind}
-use Rattle.worker_journal.proofs.entry_line.entry_of_texts.Given as goal
+use Rattle.worker_journal.proofs.entry_line.make_entry.Given as goal
 
 -- the pairs so far and those of the rest are those of all
 abbrev pub invariant-loop-name : goal.invariant-loop-name

@@ -1,6 +1,6 @@
 use Rattle.std.proofs.Common.{◌≡◌, ◌≤◌, ◌+◌, length, drop}
 use Rattle.worker_journal.specs.LastLines.{lines_of}
-use Rattle.worker_journal.proofs.last_lines.start_within.Given as goal
+use Rattle.worker_journal.proofs.last_lines.find_start.Given as goal
 
 -- those that end after this index, and those that are left
 abbrev pub invariant-loop-at : goal.invariant-loop-at
