@@ -136,7 +136,7 @@ impl Group {
         ensures named { IfSome result (λ consumer. consumer.now.name.items ≡ name.now) }
         ensures there { IfSome result (λ consumer. Contains self.now.consumers.items consumer.now) }
     {
-        match self.place_of(name) {
+        match self.find_place(name) {
             Ok(index) => self.consumers.get(index),
             Err(_) => None,
         }
@@ -193,7 +193,7 @@ impl Group {
           next_number = self.new.next_number;
         } }
     {
-        match self.place_of(name) {
+        match self.find_place(name) {
             Ok(index) => {
                 let consumer = &mut self.consumers[index];
                 consumer.seen_at = now;
@@ -219,7 +219,7 @@ impl Group {
         } }
     {
         self.pending.move_into(room.pending);
-        match self.place_of(&room.name) {
+        match self.find_place(&room.name) {
             Ok(index) => {
                 let consumer = &mut self.consumers[index];
                 consumer.seen_at = now;
@@ -304,7 +304,7 @@ impl Group {
         let Some(was) = self.pending.remove(id) else {
             return false;
         };
-        one_less(&mut self.consumers, was.consumer);
+        count_one_less(&mut self.consumers, was.consumer);
         true
     }
 
@@ -313,7 +313,7 @@ impl Group {
         ensures removed { IsRemoved name.now result self.old self.new }
         ensures others { self.new ≡ record self.old { pending = self.new.pending; consumers = self.new.consumers } }
     {
-        let Ok(index) = self.place_of(name) else {
+        let Ok(index) = self.find_place(name) else {
             return 0;
         };
         let consumer = self.consumers.remove(index);
@@ -322,7 +322,7 @@ impl Group {
     }
 
     /// The index of the consumer of this name, or of the first after it.
-    fn place_of(&self, name: &[u8]) -> Result<usize, usize>
+    fn find_place(&self, name: &[u8]) -> Result<usize, usize>
         ensures bound { IsSearchInRange result (length self.now.consumers.items) }
         ensures found { IfOk result (HoldsAt (λ consumer. consumer.name.items ≡ name.now)
             self.now.consumers.items) }
@@ -357,13 +357,13 @@ fn recount(consumers: &mut [Consumer], replaced: Option<Pending>, number: u64)
     ensures { consumers.new ≡ map (with_more number) (recounted replaced consumers.old) }
 {
     if let Some(was) = replaced {
-        one_less(consumers, was.consumer);
+        count_one_less(consumers, was.consumer);
     }
-    one_more(consumers, number);
+    count_one_more(consumers, number);
 }
 
 /// Counts one more pending entry for the consumer of this number.
-fn one_more(consumers: &mut [Consumer], number: u64)
+fn count_one_more(consumers: &mut [Consumer], number: u64)
     ensures { consumers.new ≡ map (with_more number) consumers.old }
 {
     for consumer in consumers.iter_mut() {
@@ -372,7 +372,7 @@ fn one_more(consumers: &mut [Consumer], number: u64)
 }
 
 /// Counts one pending entry less for the consumer of this number.
-fn one_less(consumers: &mut [Consumer], number: u64)
+fn count_one_less(consumers: &mut [Consumer], number: u64)
     ensures { consumers.new ≡ map (with_less number) consumers.old }
 {
     for consumer in consumers.iter_mut() {

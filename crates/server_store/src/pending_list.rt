@@ -78,8 +78,8 @@ impl PendingList {
         ensures there { IfSome result (λ pending. Contains self.now.items pending) }
         ensures none { IfNone result (IsNowhere (λ pending. pending.id) id self.now.items) }
     {
-        match place(&self.slots, id) {
-            Ok(index) => pending_in(&self.slots[index]),
+        match find_place(&self.slots, id) {
+            Ok(index) => find_pending(&self.slots[index]),
             Err(_) => None,
         }
     }
@@ -89,7 +89,7 @@ impl PendingList {
         ensures some { IfSome result (λ first. (rest : List Pending) × (self.now.items ≡ first ∷ rest)) }
         ensures none { IfNone result (self.now.items ≡ []) }
     {
-        match next_in(&self.slots, 0) {
+        match find_next(&self.slots, 0) {
             Some((_, pending)) => Some(pending),
             None => None,
         }
@@ -100,14 +100,14 @@ impl PendingList {
         ensures some { IfSome result (λ last. (front : List Pending) × (self.now.items ≡ front ++ last ∷ [])) }
         ensures none { IfNone result (self.now.items ≡ []) }
     {
-        last_in(&self.slots)
+        find_last(&self.slots)
     }
 
     /// The index of the first slot with at least this id.
     pub fn start(&self, id: EntryId) -> usize
         ensures { BeginsAt id self.now result }
     {
-        match place(&self.slots, id) {
+        match find_place(&self.slots, id) {
             Ok(index) => index,
             Err(index) => index,
         }
@@ -117,7 +117,7 @@ impl PendingList {
     pub fn start_behind(&self, id: EntryId) -> usize
         ensures { live_from self.now.slots result ≡ pending_behind id self.now.items }
     {
-        match place(&self.slots, id) {
+        match find_place(&self.slots, id) {
             Ok(index) => index + 1,
             Err(index) => index,
         }
@@ -130,7 +130,7 @@ impl PendingList {
         ensures further { IfSome result (λ next. (at < next.0) × (next.0 ≤ length self.now.slots)) }
         ensures none { IfNone result (live_from self.now.slots at ≡ []) }
     {
-        next_in(&self.slots, at)
+        find_next(&self.slots, at)
     }
 
     /// Inserts the pending entry, or replaces and returns the one with its id. It allocates memory only if there
@@ -140,7 +140,7 @@ impl PendingList {
         ensures err { OnErr result (self.new.items ≡ self.old.items) }
         ensures err_new { OnErr result (IsNowhere (λ pending. pending.id) pending.id self.old.items) }
     {
-        match place(&self.slots, pending.id) {
+        match find_place(&self.slots, pending.id) {
             Ok(index) => Ok(self.put_at(index, pending)),
             Err(index) => {
                 let held = Held::new(*self.slots.allocator(), pending)?;
@@ -160,7 +160,7 @@ impl PendingList {
             → length self.new.slots + more ≤ self.new.capacity }
     {
         let pending = held.get();
-        match place(&self.slots, pending.id) {
+        match find_place(&self.slots, pending.id) {
             Ok(index) => Ok(self.put_at(index, pending)),
             Err(index) => {
                 self.insert(index, held)?;
@@ -178,7 +178,7 @@ impl PendingList {
         ensures len { length self.new.slots ≡ length self.old.slots }
         ensures capacity { self.new.capacity ≡ self.old.capacity }
     {
-        match pending_in(&self.slots[index]) {
+        match find_pending(&self.slots[index]) {
             Some(was) => {
                 fill(&mut self.slots[index], pending);
                 Some(was)
@@ -218,10 +218,10 @@ impl PendingList {
         ensures same { IfNone result (self.new ≡ self.old) }
         ensures none { IfNone result (IsNowhere (λ pending. pending.id) id self.old.items) }
     {
-        let Ok(index) = place(&self.slots, id) else {
+        let Ok(index) = find_place(&self.slots, id) else {
             return None;
         };
-        let Some(was) = pending_in(&self.slots[index]) else {
+        let Some(was) = find_pending(&self.slots[index]) else {
             return None;
         };
         let slot = &mut self.slots[index];
@@ -274,7 +274,7 @@ impl PendingList {
 }
 
 /// The index of the slot with this id, or as an `Err` of the first after it.
-fn place(slots: &VecDeque<Slot>, id: EntryId) -> Result<usize, usize>
+fn find_place(slots: &VecDeque<Slot>, id: EntryId) -> Result<usize, usize>
     ensures bound { IsSearchInRange result (length slots.now.items) }
     ensures found { IfOk result (HoldsAt (λ slot. slot.held.id ≡ id) slots.now.items) }
     ensures missing { IfErr result (λ index. IsAscending (λ slot. slot.held.id) slots.now.items
@@ -284,7 +284,7 @@ fn place(slots: &VecDeque<Slot>, id: EntryId) -> Result<usize, usize>
 }
 
 /// What is pending in the slot.
-fn pending_in(slot: &Slot) -> Option<Pending>
+fn find_pending(slot: &Slot) -> Option<Pending>
     ensures some { IfSome result (λ pending. (slot.now.is_live ≡ true) × (slot.now.held ≡ pending)) }
     ensures none { IfNone result (slot.now.is_live ≡ false) }
 {
@@ -311,14 +311,14 @@ fn is_for_other(slot: &Slot, consumer: u64) -> bool
 }
 
 /// The first entry that is pending from this slot on, with the index of the slot after it.
-fn next_in(slots: &VecDeque<Slot>, at: usize) -> Option<(usize, Pending)>
+fn find_next(slots: &VecDeque<Slot>, at: usize) -> Option<(usize, Pending)>
     ensures some { IfSome result (λ next. live_from slots.now.items at
         ≡ next.1 ∷ live_from slots.now.items next.0) }
     ensures further { IfSome result (λ next. (at < next.0) × (next.0 ≤ length slots.now.items)) }
     ensures none { IfNone result (live_from slots.now.items at ≡ []) }
 {
     for index in at..slots.len() {
-        if let Some(pending) = pending_in(&slots[index]) {
+        if let Some(pending) = find_pending(&slots[index]) {
             return Some((index + 1, pending));
         }
     }
@@ -326,12 +326,12 @@ fn next_in(slots: &VecDeque<Slot>, at: usize) -> Option<(usize, Pending)>
 }
 
 /// The last pending entry.
-fn last_in(slots: &VecDeque<Slot>) -> Option<Pending>
+fn find_last(slots: &VecDeque<Slot>) -> Option<Pending>
     ensures some { IfSome result (λ last. (front : List Pending) × (live slots.now.items ≡ front ++ last ∷ [])) }
     ensures none { IfNone result (live slots.now.items ≡ []) }
 {
     for index in (0..slots.len()).rev() {
-        if let Some(pending) = pending_in(&slots[index]) {
+        if let Some(pending) = find_pending(&slots[index]) {
             return Some(pending);
         }
     }

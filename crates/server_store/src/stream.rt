@@ -181,11 +181,11 @@ impl Stream {
     pub fn trim(&mut self, trim: Trim) -> usize
         ensures { IsTrimmed trim result self.old self.new }
     {
-        let (nodes, whole) = whole_nodes(&self.nodes, self.entries.len(), trim);
+        let (nodes, whole) = count_whole_nodes(&self.nodes, self.entries.len(), trim);
         let count = if trim.is_approximate {
             whole
         } else {
-            self.exact_count(trim.bound)
+            self.count_removed(trim.bound)
         };
         self.give_back();
         self.take_oldest(count);
@@ -278,7 +278,7 @@ impl Stream {
     }
 
     /// How many of the oldest entries the bound removes.
-    fn exact_count(&self, bound: Bound) -> usize
+    fn count_removed(&self, bound: Bound) -> usize
         ensures bound { result ≤ length self.now.entries.items }
         ensures exact { IsExactCount bound self.now.entries.items result }
     {
@@ -315,7 +315,7 @@ fn grow_last(nodes: &mut VecDeque<Node>, id: EntryId)
 }
 
 /// How many of the first nodes are removed as a whole, and how many entries these are.
-fn whole_nodes(nodes: &VecDeque<Node>, len: usize, trim: Trim) -> (usize, usize)
+fn count_whole_nodes(nodes: &VecDeque<Node>, len: usize, trim: Trim) -> (usize, usize)
     ensures nodes { result.0 ≤ length nodes.now.items }
     ensures count { result.1 ≡ whole_from trim len 0 nodes.now.items }
     ensures bound { result.1 ≤ len }
@@ -361,13 +361,13 @@ fn forget(nodes: &mut VecDeque<Node>, index: usize)
     ensures { index < sum_by (λ node. node.live) nodes.old.items
         → IsLessAt index nodes.old.items nodes.new.items }
 {
-    if let Some(place) = node_of(nodes, index) {
+    if let Some(place) = find_node(nodes, index) {
         take_one(nodes, place);
     }
 }
 
 /// The index of the node of the entry at this index.
-fn node_of(nodes: &VecDeque<Node>, index: usize) -> Option<usize>
+fn find_node(nodes: &VecDeque<Node>, index: usize) -> Option<usize>
     ensures some { IfSome result (λ place. place < length nodes.now.items) }
     ensures within { IfSome result (IsWithin index nodes.now.items) }
     ensures none { IfNone result (sum_by (λ node. node.live) nodes.now.items ≤ index) }

@@ -14,18 +14,18 @@ returns-in_default-clause-none c =
     rw (← c.self.view_is)
     (nowhere_live c.args.id c.self.inside.slots.items c.in_default.field-0 (c.in_default.ensures.missing c.self.invariant.ascend))
 
-pub returns-in_default-pending_in-clause-without : goal.returns-in_default-pending_in-clause-without
-returns-in_default-pending_in-clause-without c =
+pub returns-in_default-find_pending-clause-without : goal.returns-in_default-find_pending-clause-without
+returns-in_default-find_pending-clause-without c =
     rw (← c.self.view_is)
     (sym (without_none c.args.id _
     (nowhere_marked c.self.inside.slots.items c.self.inside.len c.in-Ok.index c.index.result.now c.in-Ok.ensures.bound
-    c.index.ensures c.self.invariant c.args.id c.in-Ok.ensures.found c.in_default-pending_in.ensures.none)))
+    c.index.ensures c.self.invariant c.args.id c.in-Ok.ensures.found c.in_default-find_pending.ensures.none)))
 
-pub returns-in_default-pending_in-clause-none : goal.returns-in_default-pending_in-clause-none
-returns-in_default-pending_in-clause-none c =
+pub returns-in_default-find_pending-clause-none : goal.returns-in_default-find_pending-clause-none
+returns-in_default-find_pending-clause-none c =
     rw (← c.self.view_is)
     (nowhere_marked c.self.inside.slots.items c.self.inside.len c.in-Ok.index c.index.result.now c.in-Ok.ensures.bound
-    c.index.ensures c.self.invariant c.args.id c.in-Ok.ensures.found c.in_default-pending_in.ensures.none)
+    c.index.ensures c.self.invariant c.args.id c.in-Ok.ensures.found c.in_default-find_pending.ensures.none)
 
 pub overflow_sub-self : goal.overflow_sub-self
 overflow_sub-self c =

@@ -1,6 +1,6 @@
 use Rattle.std.proofs.Common.{◌≡◌, ◌≤◌, drop}
 use Rattle.server_store.specs.Trim.{whole_from}
-use Rattle.server_store.proofs.stream.whole_nodes.Given as goal
+use Rattle.server_store.proofs.stream.count_whole_nodes.Given as goal
 
 -- from the nodes that are left come as many as from all
 abbrev pub invariant-loop-place : goal.invariant-loop-place

@@ -1,6 +1,6 @@
 use Rattle.std.proofs.Common.{◌≡◌}
 use Rattle.server_store.specs.PendingList.{live_from}
-use Rattle.server_store.proofs.pending_list.next_in.Given as goal
+use Rattle.server_store.proofs.pending_list.find_next.Given as goal
 
 -- none was live so far
 abbrev pub invariant-loop-index : goal.invariant-loop-index

@@ -1,6 +1,6 @@
 use Rattle.server_store.specs.Pending.{with_less}
 use Rattle.server_store.proofs.CountLemmas.{changed_next}
-use Rattle.server_store.proofs.group.one_less.Goals as goal
+use Rattle.server_store.proofs.group.count_one_less.Goals as goal
 
 pub loop-consumer-preserved : goal.loop-consumer-preserved
 loop-consumer-preserved c =

@@ -1,5 +1,5 @@
 use Rattle.std.proofs.Common.{◌≡◌, ◌+◌, sum_by, take}
-use Rattle.server_store.proofs.stream.node_of.Given as goal
+use Rattle.server_store.proofs.stream.find_node.Given as goal
 
 -- the nodes so far are before the index
 abbrev pub invariant-loop-place : goal.invariant-loop-place

@@ -1,6 +1,6 @@
 use Rattle.server_store.specs.Pending.{with_more}
 use Rattle.server_store.proofs.CountLemmas.{changed_next}
-use Rattle.server_store.proofs.group.one_more.Goals as goal
+use Rattle.server_store.proofs.group.count_one_more.Goals as goal
 
 pub loop-consumer-preserved : goal.loop-consumer-preserved
 loop-consumer-preserved c =

@@ -1,6 +1,6 @@
 use Rattle.std.proofs.Common.{◌≡◌, ◌++◌, map, take, drop}
 use Rattle.server_store.specs.Pending.{with_less}
-use Rattle.server_store.proofs.group.one_less.Given as goal
+use Rattle.server_store.proofs.group.count_one_less.Given as goal
 
 abbrev pub invariant-loop-consumer : goal.invariant-loop-consumer
 invariant-loop-consumer l =

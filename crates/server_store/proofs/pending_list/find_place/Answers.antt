@@ -1,7 +1,7 @@
 use Rattle.std.proofs.Common.{rules}
 use Rattle.std.proofs.lemmas.List.Sorted.{answers_always}
 use Rattle.server_store.proofs.OrderLemmas.{found, missing}
-use Rattle.server_store.proofs.pending_list.place.Goals as goal
+use Rattle.server_store.proofs.pending_list.find_place.Goals as goal
 
 -- the closure gives the id of the slot
 pub returns-clause-found : goal.returns-clause-found

@@ -1,6 +1,6 @@
 use Rattle.std.proofs.Common.{arith}
 use Rattle.server_store.proofs.PendingListLemmas.{last_live}
-use Rattle.server_store.proofs.pending_list.last_in.Goals as goal
+use Rattle.server_store.proofs.pending_list.find_last.Goals as goal
 
 pub returns-in-Some-clause-some : goal.returns-in-Some-clause-some
 returns-in-Some-clause-some c =
