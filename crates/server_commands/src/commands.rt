@@ -469,11 +469,6 @@ fn require_count(argument: &[u8]) -> Result<u64, Refusal> {
     Ok(u64::try_from(require_integer(argument)?).unwrap_or(0))
 }
 
-/// A number of 64 bits with a sign, and 0 for a negative one. None for any other text.
-fn parse_count(argument: &[u8]) -> Option<u64> {
-    Some(u64::try_from(parse_integer(argument)?).unwrap_or(0))
-}
-
 /// An id, or `-` for the smallest one and `+` for the largest one.
 fn parse_loose_id(text: &[u8], missing: u64) -> Option<EntryId> {
     match before_nul(text) {
