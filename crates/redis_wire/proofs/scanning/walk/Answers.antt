@@ -31,22 +31,20 @@ returns-then-inner-eq0-2-clause-is c =
 
 pub loop-inner-preserved-then-passed-gt0 : goal.loop-inner-preserved-then-passed-gt0
 loop-inner-preserved-then-passed-gt0 c =
-    let run = c.pass_short_bulks-passed.ensures in
-    let most = c.count_allowed-most.ensures in
-    run.pass c.loop-inner.count c.loop-inner.inner c.loop-inner.outer.items c.args.bytes.now
-    (omega (arith, run.few, most.members)) (omega (arith, run.few, most.values, c.if-count-limits.false))
+    let run = c.pass_run-passed.ensures in
+    run.pass c.loop-inner.count c.loop-inner.inner c.loop-inner.outer.items c.args.bytes.now run.members run.values
     (omega (arith, c.if-inner-eq0-2.false)) c.loop-inner.invariant
 
 pub loop-inner-smaller : goal.loop-inner-smaller
 loop-inner-smaller c =
     let shorter : length c.in-Ok.after.now + 3 ≤ length c.loop-inner.rest.now =
     item_shorter c.args.limits c.loop-inner.rest.now (c.in-Ok.asked, c.in-Ok.after.now) c.in-Ok.ensures in
-    omega (arith, shorter, c.in_ok-next-in-Ok.ensures.one)
+    omega (arith, shorter, c.in_ok-inner-in-Ok.ensures.one)
 
 pub loop-inner-preserved : goal.loop-inner-preserved
 loop-inner-preserved c =
     let next : c.loop-inner.count + 1 ≡ suc c.loop-inner.count = omega arith in
-    rw next (c.in_ok-next-in-Ok.ensures.is c.args.limits c.loop-inner.count c.args.bytes.now c.loop-inner.rest.now
+    rw next (c.in_ok-inner-in-Ok.ensures.is c.args.limits c.loop-inner.count c.args.bytes.now c.loop-inner.rest.now
     c.in-Ok.after.now (omega (arith, c.if-count-limits.false)) c.loop-inner.invariant c.in-Ok.ensures)
 
 pub returns-in-Err-Fault-clause-is : goal.returns-in-Err-Fault-clause-is
