@@ -1,6 +1,7 @@
 //! An example of a worker, tested without a server or a connection: to copy from.
 mod loopback;
 
+use crate::check_same;
 use redis_wire::{Decoded, Limits, Reply, command_words, decode};
 use server_commands::{Protocol, Server, Session, append_reply};
 use std::alloc::{AllocError, Global};
@@ -92,9 +93,9 @@ fn my_worker_takes_each_entry(rt: HostRuntime) -> Result<(), Fail> {
         let limits = Limits::default();
         let _progress = worker.answered_in_place(alloc, &answer, limits, &mut handler)?;
     }
-    assert_eq!(rt; handler.done, 2);
+    check_same(&rt, handler.done, 2);
     let pending = run_command(alloc, &mut server, &mut session, "XPENDING k g")?;
-    assert_eq!(rt; pending.as_str(), "*4\r\n:0\r\n$-1\r\n$-1\r\n*-1\r\n");
+    check_same(&rt, pending.as_str(), "*4\r\n:0\r\n$-1\r\n$-1\r\n*-1\r\n");
     Ok(())
 }
 
@@ -114,15 +115,21 @@ fn check_names(
 #[test]
 fn empty_names_are_refused(rt: HostRuntime) -> Result<(), Fail> {
     let alloc = rt.alloc();
-    assert_eq!(rt; check_names(alloc, "k", "g", "ann")?, None);
-    assert_eq!(rt; check_names(alloc, "", "", "")?, Some(SettingsError::NoKey));
-    assert_eq!(rt;
-        check_names(alloc, "k", "", "")?,
-        Some(SettingsError::NoGroup)
+    check_same(&rt, check_names(alloc, "k", "g", "ann")?, None);
+    check_same(
+        &rt,
+        check_names(alloc, "", "", "")?,
+        Some(SettingsError::NoKey),
     );
-    assert_eq!(rt;
+    check_same(
+        &rt,
+        check_names(alloc, "k", "", "")?,
+        Some(SettingsError::NoGroup),
+    );
+    check_same(
+        &rt,
         check_names(alloc, "k", "g", "")?,
-        Some(SettingsError::NoConsumer)
+        Some(SettingsError::NoConsumer),
     );
     Ok(())
 }
@@ -132,9 +139,13 @@ fn a_count_is_from_1_to_10000(rt: HostRuntime) -> Result<(), Fail> {
     let alloc = rt.alloc();
     let name = String::from_str(alloc, "k")?;
     let mut settings = Settings::new(name.clone()?, name.clone()?, name)?;
-    assert_eq!(rt; settings.set_count(0), Err(SettingsError::NoCount));
-    assert_eq!(rt; settings.set_count(1), Ok(()));
-    assert_eq!(rt; settings.set_count(10_000), Ok(()));
-    assert_eq!(rt; settings.set_count(10_001), Err(SettingsError::LargeCount));
+    check_same(&rt, settings.set_count(0), Err(SettingsError::NoCount));
+    check_same(&rt, settings.set_count(1), Ok(()));
+    check_same(&rt, settings.set_count(10_000), Ok(()));
+    check_same(
+        &rt,
+        settings.set_count(10_001),
+        Err(SettingsError::LargeCount),
+    );
     Ok(())
 }

@@ -64,14 +64,14 @@ fn check_known(
     known: &[(u128, usize)],
     new: &[u128],
 ) {
-    assert_eq!(rt; ids.len(), known.len());
+    check_same(rt, ids.len(), known.len());
     for (number, place) in known {
         assert!(rt; ids.has(*number), "{number} is not known");
-        assert_eq!(rt; ids.place_of(*number), Some(*place));
+        check_same(rt, ids.place_of(*number), Some(*place));
     }
     for number in new {
         assert!(rt; !ids.has(*number), "{number} is known");
-        assert_eq!(rt; ids.place_of(*number), None);
+        check_same(rt, ids.place_of(*number), None);
     }
 }
 
@@ -235,17 +235,18 @@ fn make_long_file(rt: &(impl AllocGlobal + Abort)) -> Result<Vec<u8>, AllocError
 fn check_long(rt: &(impl AllocGlobal + Abort)) -> Result<(), FileError> {
     let bytes = make_long_file(rt)?;
     let told = read_ids(rt, &bytes, false)?;
-    assert_eq!(rt; told.len(), 20_000);
+    check_same(rt, told.len(), 20_000);
     for number in 0..20_000usize {
-        assert_eq!(rt;
+        check_same(
+            rt,
             told[number].number(),
-            to_u128(number as u64, number as u64 % 7)
+            to_u128(number as u64, number as u64 % 7),
         );
     }
     // A line has 33 bytes with its end, and its number twice beside these: ten of one digit, 90 of two, and so on.
-    assert_eq!(rt; told[1].place(), 35);
-    assert_eq!(rt; told[10].place(), 350);
-    assert_eq!(rt; told[19_999].place(), 837_737);
+    check_same(rt, told[1].place(), 35);
+    check_same(rt, told[10].place(), 350);
+    check_same(rt, told[19_999].place(), 837_737);
     Ok(())
 }
 

@@ -1,4 +1,5 @@
 //! Tables in memory. Each expected result was computed by hand.
+use crate::check_same;
 use std::alloc::{AllocError, Global};
 use std::process::Abort;
 use worker_table::row_table::{
@@ -28,9 +29,9 @@ fn put(alloc: Global, table: &mut MemoryTable, texts: &[(u64, &[u8])]) -> Result
 
 /// Checks that the rows have these keys.
 fn check_keys(rt: &impl Abort, table: &MemoryTable, keys: &[u64]) {
-    assert_eq!(rt; table.rows().len(), keys.len());
+    check_same(rt, table.rows().len(), keys.len());
     for (row, key) in table.rows().iter().zip(keys) {
-        assert_eq!(rt; row.first, *key);
+        check_same(rt, row.first, *key);
     }
 }
 
@@ -38,9 +39,9 @@ fn check_keys(rt: &impl Abort, table: &MemoryTable, keys: &[u64]) {
 fn each_key_is_there_once(rt: HostRuntime) {
     let mut table = MemoryTable::new(rt.alloc());
     let first = [(1, b"a".as_slice()), (2, b"b".as_slice())];
-    assert_eq!(rt; put(rt.alloc(), &mut table, first.as_slice()), Ok(()));
+    check_same(&rt, put(rt.alloc(), &mut table, first.as_slice()), Ok(()));
     let again = [(2, b"b".as_slice()), (3, b"c".as_slice())];
-    assert_eq!(rt; put(rt.alloc(), &mut table, again.as_slice()), Ok(()));
+    check_same(&rt, put(rt.alloc(), &mut table, again.as_slice()), Ok(()));
     check_keys(&rt, &table, [1, 2, 3].as_slice());
 }
 
@@ -48,14 +49,15 @@ fn each_key_is_there_once(rt: HostRuntime) {
 fn other_values_roll_the_rows_back(rt: HostRuntime) {
     let mut table = MemoryTable::new(rt.alloc());
     let first = [(1, b"a".as_slice())];
-    assert_eq!(rt; put(rt.alloc(), &mut table, first.as_slice()), Ok(()));
+    check_same(&rt, put(rt.alloc(), &mut table, first.as_slice()), Ok(()));
     let other = [(2, b"b".as_slice()), (1, b"c".as_slice())];
-    assert_eq!(rt;
+    check_same(
+        &rt,
         put(rt.alloc(), &mut table, other.as_slice()),
         Err(TableError::OtherText {
             first: 1,
             second: 0,
-        })
+        }),
     );
     check_keys(&rt, &table, [1].as_slice());
 }
@@ -85,16 +87,17 @@ fn take_first(alloc: Global, outbox: &mut MemoryOutbox) -> Result<Option<u64>, T
 #[test]
 fn posts_come_in_the_order_of_their_keys(rt: HostRuntime) {
     let mut outbox = MemoryOutbox::new(rt.alloc());
-    assert_eq!(rt;
+    check_same(
+        &rt,
         put_posted(rt.alloc(), &mut outbox, [3, 1, 2].as_slice()),
-        Ok(())
+        Ok(()),
     );
     check_keys(&rt, outbox.table(), [3, 1, 2].as_slice());
-    assert_eq!(rt; outbox.begin(), Ok(()));
+    check_same(&rt, outbox.begin(), Ok(()));
     for key in [1, 2, 3] {
-        assert_eq!(rt; take_first(rt.alloc(), &mut outbox), Ok(Some(key)));
+        check_same(&rt, take_first(rt.alloc(), &mut outbox), Ok(Some(key)));
     }
-    assert_eq!(rt; take_first(rt.alloc(), &mut outbox), Ok(None));
+    check_same(&rt, take_first(rt.alloc(), &mut outbox), Ok(None));
     outbox.roll_back();
-    assert_eq!(rt; outbox.posts().len(), 3);
+    check_same(&rt, outbox.posts().len(), 3);
 }

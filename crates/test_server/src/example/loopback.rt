@@ -1,4 +1,5 @@
 //! A worker over a connection to a server in memory: to copy from.
+use crate::check_same;
 use crate::example::{Count, worker_of};
 use redis_connection::Connection;
 use redis_resp::Value;
@@ -58,8 +59,8 @@ fn my_worker_drains_what_another_connection_adds(rt: HostRuntime) -> Result<(), 
     add_three(alloc, &mut producer)?;
     drop(producer);
     let mut connection = connected(alloc, &loopback)?;
-    assert_eq!(rt; drained(alloc, &mut connection)?, 3);
-    assert_eq!(rt; pending(alloc, &mut connection)?, 0);
+    check_same(&rt, drained(alloc, &mut connection)?, 3);
+    check_same(&rt, pending(alloc, &mut connection)?, 0);
     Ok(())
 }
 
@@ -87,9 +88,13 @@ fn an_acknowledgement_goes_out_with_the_next_question(rt: HostRuntime) -> Result
     let mut connection = connected(alloc, &loopback)?;
     add_three(alloc, &mut connection)?;
     let mut handler = Count { done: 0 };
-    assert_eq!(rt; count_pipelined(alloc, &mut connection, &mut handler)?, 1);
-    assert_eq!(rt; handler.done, 3);
-    assert_eq!(rt; pending(alloc, &mut connection)?, 0);
+    check_same(
+        &rt,
+        count_pipelined(alloc, &mut connection, &mut handler)?,
+        1,
+    );
+    check_same(&rt, handler.done, 3);
+    check_same(&rt, pending(alloc, &mut connection)?, 0);
     Ok(())
 }
 
@@ -114,9 +119,9 @@ fn a_worker_that_ends_acknowledges_what_is_done(rt: HostRuntime) -> Result<(), F
     add_three(alloc, &mut connection)?;
     let mut handler = Count { done: 0 };
     let (before, after) = count_pending_around_end(alloc, &mut connection, &mut handler)?;
-    assert_eq!(rt; handler.done, 3);
-    assert_eq!(rt; before, 3);
-    assert_eq!(rt; after, 0);
+    check_same(&rt, handler.done, 3);
+    check_same(&rt, before, 3);
+    check_same(&rt, after, 0);
     Ok(())
 }
 
@@ -126,22 +131,25 @@ fn an_end_that_breaks_says_so(rt: HostRuntime) -> Result<(), Fail> {
     let loopback = Loopback::new(alloc, Server::new(alloc))?;
     let (mut reader, mut writer) = loopback.connect()?;
     let mut room = [0u8; 64];
-    assert_eq!(rt;
+    check_same(
+        &rt,
         to_error_kind(reader.read(&mut room)),
-        Some(ErrorKind::WouldBlock)
+        Some(ErrorKind::WouldBlock),
     );
     writer.break_after(8);
-    assert_eq!(rt; writer.write(b"PING\r\nPING\r\n")?, 8);
-    assert_eq!(rt;
+    check_same(&rt, writer.write(b"PING\r\nPING\r\n")?, 8);
+    check_same(
+        &rt,
         to_error_kind(writer.write(b"NG\r\n")),
-        Some(ErrorKind::BrokenPipe)
+        Some(ErrorKind::BrokenPipe),
     );
     reader.break_after(3);
-    assert_eq!(rt; reader.read(&mut room)?, 3);
-    assert_eq!(rt; &room[..3], b"+PO".as_slice());
-    assert_eq!(rt;
+    check_same(&rt, reader.read(&mut room)?, 3);
+    check_same(&rt, &room[..3], b"+PO".as_slice());
+    check_same(
+        &rt,
         to_error_kind(reader.read(&mut room)),
-        Some(ErrorKind::ConnectionReset)
+        Some(ErrorKind::ConnectionReset),
     );
     Ok(())
 }
@@ -154,13 +162,15 @@ fn bytes_that_are_no_command_end_a_connection(rt: HostRuntime) -> Result<(), Fai
     writer.write_all(b"*x\r\n")?;
     let mut answers = String::new(alloc);
     let _len = reader.read_to_string(&mut answers)?;
-    assert_eq!(rt;
+    check_same(
+        &rt,
         answers.as_str(),
-        "-ERR Protocol error: invalid multibulk length\r\n"
+        "-ERR Protocol error: invalid multibulk length\r\n",
     );
-    assert_eq!(rt;
+    check_same(
+        &rt,
         to_error_kind(writer.write(b"PING\r\n")),
-        Some(ErrorKind::BrokenPipe)
+        Some(ErrorKind::BrokenPipe),
     );
     Ok(())
 }
@@ -205,6 +215,6 @@ fn a_command_is_flushed_before_its_reply_is_awaited(rt: HostRuntime) -> Result<(
     let mut connection = Connection::new(alloc, reader, holding, Limits::default())?;
     add_three(alloc, &mut connection)?;
     let length = connection.ask_as::<usize, _>(alloc, &("XLEN", "k"))?;
-    assert_eq!(rt; length, 3);
+    check_same(&rt, length, 3);
     Ok(())
 }
