@@ -82,8 +82,21 @@ def figures(plan: Plan, form: str) -> str:
 
 
 def tables(plan: Plan) -> str:
-    """Returns the table of each stream."""
-    return "\n".join(run_once(plan, "--", key, "1") for key in plan.keys)
+    """Returns the table of each stream, or a line that says that there is no such stream."""
+    return "\n".join(_table(plan, key) for key in plan.keys)
+
+
+def _table(plan: Plan, key: str) -> str:
+    try:
+        return run_once(plan, "--", key, "1")
+    except Failed as failed:
+        if NO_STREAM not in str(failed):
+            raise
+        return f"{_tell_none(key)}\n"
+
+
+def _tell_none(key: str) -> str:
+    return f"{on_one_line(resp.to_bytes(key))}: no such stream"
 
 
 class Watch(threading.Thread):
@@ -127,7 +140,7 @@ class Watch(threading.Thread):
 
     def _show_none(self) -> None:
         """Shows that there is no stream, which may come."""
-        none = [f"{on_one_line(resp.to_bytes(self.key))}: no such stream"]
+        none = [_tell_none(self.key)]
         if self.table != none:
             self.table, self.is_new = none, True
         self.error = ""

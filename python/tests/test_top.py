@@ -222,8 +222,13 @@ class TopTest(unittest.TestCase):
             self.assertTrue(status == 0 and shown.endswith("# EOF\n") and 'redis_stream_length{stream="orders"} 2\n' in shown)
         status, shown, _ = called("top", self.server.url, "--once", "orders")
         self.assertEqual((status, shown.splitlines()[0]), (0, "orders: 2 entries, 1 groups, last id 6-0"))
-        status, shown, error = called("top", self.server.url, "--once", "nothing")
-        self.assertEqual((status, shown, error), (1, "", "jagyerti top: Error: the server replied ERR no such key\n"))
+        self.assertEqual(called("top", self.server.url, "--once", "nothing"), (0, "nothing: no such stream\n", ""))
+        status, shown, _ = called("top", self.server.url, "--once", "orders:dead", "orders")
+        self.assertEqual((status, shown.splitlines()[:3]),
+                         (0, ["orders:dead: no such stream", "", "orders: 2 entries, 1 groups, last id 6-0"]))
+        self.server.ask("SET", "text", "a")
+        status, shown, error = called("top", self.server.url, "--once", "orders", "text")
+        self.assertEqual((status, shown, error.startswith("jagyerti top: Error: the server replied WRONGTYPE")), (1, "", True))
         self.assertEqual(called("top", self.server.url, "--json", "--", "--once")[0], 0)
 
     def test_sentinel(self) -> None:
