@@ -59,8 +59,8 @@ fn my_worker_drains_what_another_connection_adds(rt: HostRuntime) -> Result<(), 
     add_three(alloc, &mut producer)?;
     drop(producer);
     let mut connection = connected(alloc, &loopback)?;
-    check_same(&rt, drained(alloc, &mut connection)?, 3);
-    check_same(&rt, pending(alloc, &mut connection)?, 0);
+    assert_eq!(rt; drained(alloc, &mut connection)?, 3);
+    assert_eq!(rt; pending(alloc, &mut connection)?, 0);
     Ok(())
 }
 
