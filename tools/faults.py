@@ -23,14 +23,6 @@ def text(number):
     return b"%d tea\t\\ %s\r" % (number, "\u00e9".encode() if number % 2 else b"\xff") + b"." * (number % 50)
 
 
-def line_of(id, texts):
-    """The line of an entry in a file of stream_drain, without its end."""
-    def escaped(one):
-        return one.replace(b"\\", b"\\\\").replace(b"\t", b"\\t").replace(b"\n", b"\\n").replace(b"\r", b"\\r")
-
-    return b"\t".join([id, *map(escaped, texts)])
-
-
 def lines_in(data):
     """The lines of a file. A last one without its end is marked, so that it is no line that went in."""
     *lines, rest = data.split(b"\n")

@@ -10,6 +10,7 @@ import re
 import resource
 import shutil
 import socket
+import sqlite3
 import subprocess
 import sys
 import threading
@@ -137,6 +138,12 @@ def write(path: str, data: Union[str, bytes], mode: int = 0) -> str:
     if mode:
         os.chmod(path, mode)
     return path
+
+
+def query(path: str, *statements: str) -> List[Tuple[Any, ...]]:
+    """Runs statements of SQL on a file, and returns the rows of the last one."""
+    with contextlib.closing(sqlite3.connect(path)) as database, database:
+        return [database.execute(statement).fetchall() for statement in statements][-1]
 
 
 def blocks_of(lines: Sequence[str]) -> Iterator[Tuple[Optional[str], int, List[str]]]:
@@ -306,6 +313,17 @@ def shown(text: bytes) -> Union[str, Dict[str, str]]:
 def as_json(value: Any) -> str:
     """A value as the programs' JSON has it, in which a text that is not UTF-8 is as `shown` has it."""
     return json.dumps(value, ensure_ascii=False, separators=(",", ":"))
+
+
+def line_of(id: resp.Word, fields: Iterable[resp.Word], is_json: bool = False) -> bytes:
+    """The line of an entry in a file of stream_drain, without its end."""
+    texts = list(map(resp.to_bytes, [id, *fields]))
+    if is_json:
+        told, *pairs = map(shown, texts)
+        return as_json({"id": told, "fields": list(zip(pairs[::2], pairs[1::2]))}).encode()
+    for byte, letter in (b"\\", b"\\"), (b"\t", b"t"), (b"\n", b"n"), (b"\r", b"r"):
+        texts = [text.replace(byte, b"\\" + letter) for text in texts]
+    return b"\t".join(texts)
 
 
 def ask_all(server: servers.Server, commands: Iterable[Sequence[resp.Word]]) -> List[Any]:
