@@ -379,8 +379,8 @@ def raw_replies(connection: socket.socket, commands: Iterable[Sequence[resp.Word
 
 def reply_at(data: bytes, at: int = 0) -> Tuple[Tuple[bytes, Any], int]:
     """The reply that begins there, as its kind and its text or its parts, and where it ends. It is read by its type and
-    length alone, by none of the package's readers. The text of nil is None, and an attribute is passed over. ValueError
-    if no whole reply begins there."""
+    length alone, by none of the package's readers. The text of nil is None, and the last part of an attribute is the
+    reply that has it. ValueError if no whole reply begins there."""
     end = data.index(b"\r\n", at)
     kind, text, at = data[at:at + 1], data[at + 1:end], end + 2
     if kind not in SIMPLE + SIZED:
@@ -393,10 +393,10 @@ def reply_at(data: bytes, at: int = 0) -> Tuple[Tuple[bytes, Any], int]:
             raise ValueError("a text without its end")
         return (kind, data[at:end]), end + 2
     parts = []
-    for _ in range(int(text) * (2 if kind in (b"%", b"|") else 1)):
+    for _ in range(int(text) * (2 if kind in (b"%", b"|") else 1) + (kind == b"|")):
         part, at = reply_at(data, at)
         parts.append(part)
-    return reply_at(data, at) if kind == b"|" else ((kind, parts), at)
+    return (kind, parts), at
 
 
 def replies_in(data: bytes) -> List[bytes]:
