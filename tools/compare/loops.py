@@ -8,9 +8,7 @@ usage: loops.py look PORT KEY GROUP                looks at a field of a hundred
        loops.py drain NODES NAME FILE WHICH [--until-empty]      entries of the partitions WHICH, or without end
        loops.py handler, lines, or worker URL KEY GROUP          looks at a field of each job, without redis-py
 
-NODES is HOST:PORT,.., and WHICH is numbers with commas between them. 'fill' sends fifty records at once, and sends them
-again if the client tells an error. 'drain' writes each entry into FILE.N, has the disk take the lines in, and
-acknowledges them then. After an error it begins with what is pending.
+NODES is HOST:PORT,.., and WHICH is numbers with commas between them.
 """
 import os
 import signal
