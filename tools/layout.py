@@ -1,7 +1,6 @@
 """The files of an installation, and their paths below a prefix: what tools/install and tools/release have in common."""
 from __future__ import annotations
 
-import contextlib
 import glob
 import hashlib
 import os
@@ -10,12 +9,10 @@ import shutil
 import subprocess
 import tempfile
 import textwrap
-import time as clock
 from concurrent.futures import ThreadPoolExecutor
 from typing import Dict, Iterator, List, NamedTuple
 
-from shared import ROOT, TOOL, Failed, content, crates_below, ran
-from shared import write as write_file
+from shared import ROOT, TOOL, Failed, content, crates_below, ran, step, write as write_file
 from unproved import KIT, words_of_sources
 import man_pages
 from jagyerti.cli import completions, make_parser
@@ -63,14 +60,6 @@ class Build(NamedTuple):
         return f"{'proved' if self.is_proved else 'unproved'}, {commit}{', changed' if self.is_changed else ''}"
 
 
-@contextlib.contextmanager
-def step(done: str) -> Iterator[None]:
-    """Says that something is done, and the seconds that it took, once it is."""
-    begun = clock.monotonic()
-    yield
-    print(f"{TOOL}: {done} ({clock.monotonic() - begun:.0f} s)", flush=True)
-
-
 def read(path: str) -> bytes:
     """Returns the bytes of a file of the repository."""
     return content(os.path.join(ROOT, path)) or b""
@@ -98,8 +87,7 @@ def build_programs(is_proved: bool) -> Dict[str, str]:
     paths = {name: f"{ROOT}/crates/{name}/out/{name}" if is_proved else f"{KEPT}/{name}" for name in PROGRAMS}
     lacking = [name for name in PROGRAMS if not is_current(paths[name], name)]
     if lacking:
-        how = "proves and builds these, which takes up to two hours" if is_proved else \
-            "compiles these, which takes minutes"
+        how = "proves and builds these, which takes hours" if is_proved else "compiles these, which takes minutes"
         print(f"{TOOL}: {how}: {', '.join(lacking)}", flush=True)
     if lacking and not is_proved:
         # (its output is shown as it comes)
@@ -178,8 +166,8 @@ def make_tree(build: Build) -> Tree:
 
 def tree_of(build: Build, programs: Dict[str, str], library: Dict[str, bytes]) -> Tree:
     tree = {f"bin/{name}": Entry(stamp(name, path, build), 0o755) for name, path in programs.items()}
-    tree["bin/jagyerti"] = Entry(read("bin/jagyerti").replace(b'"python"', b'"lib"').replace(b" from a checkout", b""),
-                                 0o755)
+    launcher = read("bin/jagyerti").replace(b'"python"', b'"lib"').replace(b" from a checkout", b"")
+    tree["bin/jagyerti"] = Entry(launcher, 0o755)
     tree.update({f"lib/{name}": Entry(data) for name, data in library.items()})
     tree[f"lib/lib{LIBRARY}.so"] = Entry(link=SONAME)
     tree["include/redis_streams.h"] = Entry(read(f"crates/{LIBRARY}/redis_streams.h"))
@@ -191,8 +179,7 @@ def tree_of(build: Build, programs: Dict[str, str], library: Dict[str, bytes]) -
     about = f'"""What was built."""\nVERSION = "{build.version}"\nBUILD = "{build.text}"\n'
     tree[f"{PACKAGE}/_build.py"] = Entry(about.encode())
     tree.update({path: Entry(text.encode()) for path, text in shell_files(build, programs)})
-    tree[f"{DOC}/LICENSE"] = Entry(read("LICENSE"))
-    tree[f"{DOC}/CHANGELOG.md"] = Entry(read("CHANGELOG.md"))
+    tree.update({f"{DOC}/{name}": Entry(read(name)) for name in ("LICENSE", "CHANGELOG.md")})
     tree[f"{DOC}/THIRD-PARTY.txt"] = Entry(licences_of_kit().encode())
     return tree
 
@@ -230,10 +217,10 @@ def units(prefix: str) -> Tree:
 def describe_proofs(build: Build, tree: Tree) -> str:
     """Returns the text of PROVED.txt: what was proved, by what, and the sum of each file."""
     crates = "".join(f"\n  {crate}" for crate in sorted(crates_below(*PROGRAMS, LIBRARY)))
-    what = f"Proved, and then built: {', '.join(PROGRAMS)}, lib{LIBRARY}; and these crates below them:{crates}" \
-        if build.is_proved else \
-        ("Nothing of it was proved where it was built. It is compiled from the sources alone, with a trap at each\n"
-         "sum that wraps and each index out of range.")
+    what = f"Proved, and then built: {', '.join(PROGRAMS)}, lib{LIBRARY}; and these crates below them:{crates}"
+    if not build.is_proved:
+        what = ("Nothing of it was proved where it was built. It is compiled from the sources alone, with a trap at "
+                "each\nsum that wraps and each index out of range.")
     sums = (f"{hashlib.sha256(entry.data).hexdigest()}  {path}\n" for path, entry in sorted(tree.items())
             if not entry.link)
     return (f"jagyerti {build.version} ({build.text})\n\ncommit  {build.commit or 'none'}\n"

@@ -6,6 +6,7 @@ import base64
 import contextlib
 import json
 import os
+import pathlib
 import re
 import resource
 import shutil
@@ -80,10 +81,10 @@ def program_of(crate: str, given: Optional[str] = None) -> str:
     return path if os.path.isfile(path) else fail(f"{path} is not there: 'rt run' in crates/{crate} makes it")
 
 
-def find_program(name: str, given: Optional[str] = None) -> str:
+def find_program(name: str) -> str:
     """A program as the command jagyerti finds it; ends with 2 if there is none."""
     try:
-        return process.find_program(name, given)
+        return process.find_program(name)
     except connect.Failed as failed:
         return fail(failed)
 
@@ -119,22 +120,17 @@ def python_with(module: str) -> Optional[str]:
 
 def content(path: str) -> Optional[bytes]:
     """The bytes of a file, None if there is none."""
-    if not os.path.exists(path):
-        return None
-    with open(path, "rb") as file:
-        return file.read()
+    return pathlib.Path(path).read_bytes() if os.path.exists(path) else None
 
 
 def text_of(path: str) -> str:
     """The text of a file, whose path begins at the root of the repository if it is not absolute."""
-    with open(os.path.join(ROOT, path), encoding="utf-8", errors="replace") as file:
-        return file.read()
+    return pathlib.Path(ROOT, path).read_text("utf-8", "replace")
 
 
 def write(path: str, data: Union[str, bytes], mode: int = 0) -> str:
     """Writes a file, with this mode if one is given, and returns its path."""
-    with open(path, "wb") as file:
-        file.write(data.encode() if isinstance(data, str) else data)
+    pathlib.Path(path).write_bytes(data.encode() if isinstance(data, str) else data)
     if mode:
         os.chmod(path, mode)
     return path
@@ -233,6 +229,14 @@ def table(cells: Dict[str, object]) -> None:
     head(*cells)
     row(*cells.values())
     print()
+
+
+@contextlib.contextmanager
+def step(done: str) -> Iterator[None]:
+    """Says that something is done, and the seconds that it took, once it is."""
+    begun = time.monotonic()
+    yield
+    print(f"{TOOL}: {done} ({time.monotonic() - begun:.0f} s)", flush=True)
 
 
 def until(holds: Callable[[], object], seconds: float, what: str) -> None:

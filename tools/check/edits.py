@@ -121,10 +121,9 @@ def functions_in(text):
     found = []
     for head in re.finditer(r"(?m)^( *)(?:[a-z]+(?:\([a-z]+\))? |extern \"C\" )*fn (\w+)", text):
         end = re.compile(rf"(?m)^{head[1]}}}").search(text, head.end())
-        owner = [*re.finditer(r"(?m)^impl\b(?:<[^{]*?>)? (?:[^{]*? for )?(\w+)",
-                              text[:head.start()])] if head[1] else []
+        owners = re.findall(r"(?m)^impl\b(?:<[^{]*?>)? (?:[^{]*? for )?(\w+)", text[:head.start()]) if head[1] else []
         if end:
-            found.append((head[2], owner[-1][1] if owner else "", head.start(), end.end()))
+            found.append((head[2], owners[-1] if owners else "", head.start(), end.end()))
     return found
 
 
@@ -199,6 +198,6 @@ def told_of(names, texts, told):
                 above = re.search(r"(?:^ *#\[.*\n)*\Z", texts[path][:start], re.M)
                 lines |= {(path, texts[path].count("\n", 0, at) + 1) for at in range(above.start(), end)}
     folders = [("proofs/" + (module_of(path) or "").replace("::", "/"), f"/{name}/") for path, name in names]
-    return [it for it in told if it[:2] in lines
-            or any(it[0].startswith(folder) and name in it[0] for folder, name in folders)] or [
-        it for it in told if it[0].startswith("proofs/") and any(name in it[0] for _, name in folders)]
+    is_of = lambda it, tops: any(it[0].startswith(top) and name in it[0] for top, name in tops)
+    return [it for it in told if it[:2] in lines or is_of(it, folders)] or [
+        it for it in told if is_of(it, [("proofs/", name) for _, name in folders])]
