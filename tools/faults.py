@@ -49,8 +49,7 @@ def compared(files, wanted):
 
 
 class Way:
-    """The way of lines from a file, into which they come a few at a time, through a server, by works that go on at
-    once."""
+    """The way of lines from a file, into which they come a few at a time, through a server, by works at once."""
 
     def __init__(self, folder, lines):
         self.source, self.lines, self.came, self.failed = f"{folder}/in", lines, 0, None
@@ -63,8 +62,7 @@ class Way:
             file.write(b"".join(text(number) + b"\n" for number in range(first, self.came + 1)))
 
     def do_at_once(self, *works):
-        """Does works at once, and raises the failure of one. The first is done in this thread: a server that it starts
-        ends with the tool."""
+        """Does works at once, and raises the failure of one. A server that the first one starts ends with the tool."""
         def do(work):
             try:
                 work()
@@ -97,11 +95,10 @@ def child_of(ran):
 
 
 class Link:
-    """A connection of a program with a server, `far`. It passes bytes on, until it is cut as it was told.
-
-    A cut is a kind and a number of bytes: of the program, or for 'reply' of the server. With 'request' these are passed
-    on and no more; with 'late' the rest is held back, for `deliver`; with 'unanswered' the rest comes to the server
-    too, and no more replies come back. `older` is a link whose bytes come after so many bytes of this one."""
+    """A connection of a program with a server, `far`. It passes bytes on, until it is cut: after a number of bytes of
+    the program, or for 'reply' of the server. With 'late' the rest is held back, for `deliver`; with 'unanswered' the
+    rest comes to the server too, and no more replies come back. `older` is a link whose bytes come after so many bytes
+    of this one."""
 
     def __init__(self, far, cut=UNCUT, older=None, moment=0):
         self.listener = socket.create_server(("127.0.0.1", 0))

@@ -20,11 +20,9 @@ PIPES = dict(stdin=subprocess.PIPE, stdout=subprocess.PIPE, stderr=subprocess.PI
 
 @dataclasses.dataclass
 class Session:
-    """A session: the words that a program is called with, and what it asks its server, each with the reply to it.
-
-    After the last question there may be no reply. All replies are at the standard input of the program from the start,
-    which ends after them. Texts of words are as a line, or one by one; bytes are a reply as it is sent.
-    """
+    """A session: the words that a program is called with, and what it asks its server, each with the reply to it. All
+    replies are at the standard input of the program from the start. Texts of words are as a line, or one by one; bytes
+    are a reply as it is sent."""
 
     name: str
     words: Union[str, List[str]]

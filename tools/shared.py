@@ -100,6 +100,14 @@ class Failed(Exception):
     """What is not as it has to be."""
 
 
+def end_with(main: Callable[[], Optional[int]]) -> None:
+    """Ends the tool with the status that its `main` returns, or with 1 and the reason if that fails."""
+    try:
+        sys.exit(main())
+    except (Failed, connect.Failed, OSError, subprocess.CalledProcessError) as reason:
+        sys.exit(f"{TOOL}: {reason}")
+
+
 def ran(words: Sequence[str], folder: str = ROOT, **more: Any) -> str:
     """Runs a command to its end, and returns what it prints. Fails if its status is not 0."""
     done = subprocess.run(words, cwd=folder, stdin=subprocess.DEVNULL, stdout=subprocess.PIPE, stderr=subprocess.STDOUT,
@@ -143,8 +151,7 @@ def query(path: str, *statements: str) -> List[Tuple[Any, ...]]:
 
 
 def blocks_of(lines: Sequence[str]) -> Iterator[Tuple[Optional[str], int, List[str]]]:
-    """Yields the language of each block of a page, None for an indented one, the number of its first line, and its
-    lines."""
+    """Yields the language of each block of a page, None for an indented one, its first line's number, and its lines."""
     at = 0
     while at < len(lines):
         fence, end = re.match(r"\s*```(\w*)$", lines[at]), at + 1
@@ -218,8 +225,7 @@ def head(*names: str) -> None:
 
 
 def rows_of_rates(ways: Dict[str, Sequence[float]], number: int, *first: object, digits: int = 2) -> None:
-    """Prints a row for each way of doing something so often: how often a second, and the microseconds of a
-    processor."""
+    """Prints a row for each way of doing something: how often a second, and the microseconds of a processor."""
     for name, (took, work, *more) in ways.items():
         row(*first, name, f"{number / took:,.0f}", f"{work / number * 1e6:.{digits}f}", *(f"{it:,.0f}" for it in more))
 

@@ -53,8 +53,7 @@ def lanes():
 
 def edited(crate, edit, texts=None):
     """Returns the function that an edit names, if it names one, the texts of the files that it changes, and for each
-    change the file and the place of it. A line 'more:' adds a further line to the text that is replaced. `texts` are
-    files that other edits changed before, which it is applied to."""
+    change the file and the place of it. `texts` are files that other edits changed before."""
     function, path, old, texts, sites = None, None, None, dict(texts or {}), []
     for line in read(edit).split("\n"):
         word, _, rest = line.partition(":")
@@ -139,8 +138,7 @@ def size_of(crate):
 
 
 class Calls:
-    """Which functions of a crate call which others, by the names in their texts. Names of several functions are passed
-    over: a body that is tried at once with one that its function calls is not judged, and is tried by itself then."""
+    """Which functions of a crate call which others, by the names in their texts. Names of several are passed over."""
 
     def __init__(self, crate):
         texts, several, self.reached = {}, set(), {}
@@ -189,8 +187,7 @@ def first_of(reasons):
 
 def told_of(names, texts, told):
     """Returns those of the reasons that are of some functions: of each the file, which has its text here, and the name.
-    A reason may stand at an attribute above its function. The proof of a method stands with its type, which may be in
-    another module: if there is no reason in the file or beside it, those of all proofs of that name are returned."""
+    If there is no reason in the file or beside it, those of all proofs of that name are returned."""
     lines = set()
     for path, name in names:
         for other, _, start, end in functions_in(texts[path]):
