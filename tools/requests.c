@@ -1,8 +1,6 @@
-/* Put before a program by LD_PRELOAD: counts its requests for memory, and goes on to the C library (glibc)
-   with each, by the names under which it keeps its own functions. With COUNT_REQUESTS a line 'requests
-   ALLOCATIONS REALLOCATIONS' comes to standard error at the end. The request whose number is in
-   REFUSE_REQUEST, counted from 1, is refused; then the file is made that REFUSED_MARK names, so that its
-   caller knows that the request was met. */
+/* Put before a program by LD_PRELOAD: counts its requests for memory, and goes on to the C library (glibc) with each.
+   With COUNT_REQUESTS a line 'requests ALLOCATIONS REALLOCATIONS' comes to standard error at the end. The request whose
+   number is in REFUSE_REQUEST, counted from 1, is refused; then the file is made that REFUSED_MARK names. */
 #include <errno.h>
 #include <fcntl.h>
 #include <stddef.h>
@@ -24,14 +22,10 @@ static int refused(unsigned long *count) {
         wanted = number == NULL ? 0 : strtoul(number, NULL, 10);
     }
     *count += 1;
-    if (allocations + reallocations != wanted) {
-        return 0;
-    }
+    if (allocations + reallocations != wanted) return 0;
     const char *mark = getenv("REFUSED_MARK");
     int file = mark == NULL ? -1 : open(mark, O_CREAT | O_WRONLY, 0600);
-    if (file >= 0) {
-        close(file);
-    }
+    if (file >= 0) close(file);
     errno = ENOMEM;
     return 1;
 }
@@ -54,19 +48,14 @@ void *aligned_alloc(size_t alignment, size_t size) {
 
 int posix_memalign(void **place, size_t alignment, size_t size) {
     int before = errno;
-    void *memory = refused(&allocations) ? NULL : __libc_memalign(alignment, size);
+    void *memory = aligned_alloc(alignment, size);
     errno = before;
-    if (memory == NULL) {
-        return ENOMEM;
-    }
-    *place = memory;
-    return 0;
+    if (memory != NULL) *place = memory;
+    return memory == NULL ? ENOMEM : 0;
 }
 
 __attribute__((destructor)) static void say(void) {
     char line[80];
     int length = snprintf(line, sizeof line, "requests %lu %lu\n", allocations, reallocations);
-    if (getenv("COUNT_REQUESTS") != NULL && write(STDERR_FILENO, line, (size_t)length) != length) {
-        _exit(3);
-    }
+    if (getenv("COUNT_REQUESTS") != NULL && write(STDERR_FILENO, line, (size_t)length) != length) _exit(3);
 }

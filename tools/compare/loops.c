@@ -125,12 +125,10 @@ int main(int count, char **words) {
         check(server != NULL && !server->err, "no server");
     }
     lines = malloc(room = sizeof text);
-    if (strcmp(way, "drain") == 0) {
-        int file = open(words[5], O_WRONLY | O_CREAT | O_APPEND, 0666);
-        check(file >= 0, "no file");
+    if (strcmp(way, "drain") == 0 || strcmp(way, "look") == 0) {
+        int file = way[0] == 'd' ? open(words[5], O_WRONLY | O_CREAT | O_APPEND, 0666) : -1;
+        check(file >= 0 || way[0] == 'l', "no file");
         consume(words[3], words[4], file);
-    } else if (strcmp(way, "look") == 0) {
-        consume(words[3], words[4], -1);
     } else if (strcmp(way, "fill") == 0) {
         fill(words[3], fopen(words[4], "rb"), atol(words[5]));
     } else if (strcmp(way, "read") == 0) {

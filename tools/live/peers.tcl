@@ -1,11 +1,9 @@
-# Runs redis' own tests of streams against a server that runs already, each case by itself and over connections of its
-# own. tools/live/peers calls it.
+# Runs redis' own tests of streams against a server that runs already, for tools/live/peers.
 #
 # usage: tclsh peers.tcl SOURCE HOST PORT 'COMMAND ..' FILE..
 #
-# SOURCE is redis' source. A case that sends one of the commands is left out, and so is one that starts a server of its
-# own. A line for each case: 'pass', 'fail' or 'left out', its name, and what went wrong or why it is left out, between
-# tabs.
+# A case that sends one of the commands, or starts a server of its own, is left out. A line for each case: 'pass',
+# 'fail' or 'left out', its name, and why, between tabs.
 lassign $argv source host port wanting
 set files [lrange $argv 4 end]
 cd $source
@@ -57,11 +55,8 @@ proc r {args} {
 proc s {args} { getInfoProperty [$::client info] [lindex $args end] }
 proc wait_for_blocked_client {args} { wait_for_blocked_clients_count 1 }
 proc wait_for_blocked_clients_count {count args} {
-    for {set turn 0} {$turn < 40} {incr turn} {
-        if {[s blocked_clients] == $count} { return }
-        after 25
-    }
-    error "no client waits"
+    for {set turn 0} {$turn < 40 && [s blocked_clients] != $count} {incr turn} { after 25 }
+    if {$turn == 40} { error "no client waits" }
 }
 
 # Which of the commands that the server has not this code sends, itself or by a procedure of the tests.
@@ -98,13 +93,13 @@ proc test {name code {wanted undefined} {tags {}}} {
     set missing [wants $code]
     if {[string match *external:skip* $tags]} { return [said "left out" $name "is for a server that the suite starts"] }
     if {$missing ne {}} { return [said "left out" $name "sends [join $missing {, }]"] }
+    set outcome [list pass $name]
     if {[catch {uplevel 1 $code} result]} {
-        said fail $name $result
+        set outcome [list fail $name $result]
     } elseif {$wanted ne "undefined" && $wanted ne $result && ![string match $wanted $result]} {
-        said fail $name "wanted '$wanted', got '$result'"
-    } else {
-        said pass $name
+        set outcome [list fail $name "wanted '$wanted', got '$result'"]
     }
+    said {*}$outcome
     begin_anew
 }
 
