@@ -224,12 +224,6 @@ def head(*names: str) -> None:
     print("|" + "---|" * len(names), flush=True)
 
 
-def rows_of_rates(ways: Dict[str, Sequence[float]], number: int, *first: object, digits: int = 2) -> None:
-    """Prints a row for each way of doing something: how often a second, and the microseconds of a processor."""
-    for name, (took, work, *more) in ways.items():
-        row(*first, name, f"{number / took:,.0f}", f"{work / number * 1e6:.{digits}f}", *(f"{it:,.0f}" for it in more))
-
-
 def table(cells: Dict[str, object]) -> None:
     """Prints a table of one row."""
     head(*cells)
@@ -340,11 +334,6 @@ def ask_all(server: servers.Server, commands: Iterable[Sequence[resp.Word]]) -> 
     """Sends commands over a connection of their own, and returns all replies."""
     with server.open() as connection:
         return resp.ask_all(connection, commands)
-
-
-def add_orders(server: servers.Server, number: int) -> None:
-    """Adds so many entries of two fields to the stream `orders`."""
-    ask_all(server, (["XADD", "orders", f"{n}-1", "customer", f"c{n}", "item", "tea"] for n in range(1, number + 1)))
 
 
 def over(port: int, command: str) -> List[str]:
