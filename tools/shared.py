@@ -37,9 +37,9 @@ SIMPLE, SIZED = (b"+", b"-", b"_", b":", b",", b"#", b"("), (b"$", b"=", b"!", b
 def words_of(doc: Optional[str], *places: Place, **options: Any) -> argparse.Namespace:
     """Reads the words of a tool, whose `doc` is printed at --help, and at other words, with which it ends with 2.
 
-    A place is a name, with ? if it may be left out and with * for any number of words, or a name and the number that it
-    is without a word. The usual value of an option says what it takes: False takes nothing, None and '' a text, a
-    number a number, and an empty list all words after it, or None without it.
+    A place is a name, with what argparse calls nargs behind it, or a name and the number that it is without a word. The
+    usual value of an option says what it takes: False takes nothing, None and '' a text, a number a number, and an
+    empty list all words after it, or None without it.
     """
     parser = argparse.ArgumentParser()
     told = (doc or "").strip() + ("" if "Exit status" in (doc or "") else STATUS)
@@ -47,7 +47,7 @@ def words_of(doc: Optional[str], *places: Place, **options: Any) -> argparse.Nam
     number = lambda text: int(text) if text.isdigit() else parser.error(f"no number: {text}")
     for place in places:
         if isinstance(place, str):
-            name = place.rstrip("?*+")
+            name = place.rstrip("?*+.")
             parser.add_argument(name, nargs=place[len(name):] or None)
         else:
             parser.add_argument(place[0], nargs="?", default=place[1], type=number)

@@ -19,9 +19,6 @@ import time
 sys.path[:0] = [f"{sys.path[0]}/..", f"{sys.path[0]}/../../python"]
 
 BATCH, PAUSE = 50, 0.1
-CREATE = ("CREATE TABLE IF NOT EXISTS entries (milliseconds INTEGER NOT NULL, sequence INTEGER NOT NULL, "
-          "fields TEXT NOT NULL, PRIMARY KEY (milliseconds, sequence)) STRICT")
-INSERT = "INSERT INTO entries (milliseconds, sequence, fields) VALUES (?1, ?2, ?3)"
 
 
 class Loop:
@@ -49,8 +46,8 @@ def loop_over(port, *words, **more):
 
 
 def look(port, key, group):
-    loop = loop_over(port, key, group, lambda entries: [id for id, fields in entries if fields[b"item"].decode()], ">",
-                     count=100, block=100)
+    handle = lambda entries: [id for id, fields in entries if fields[b"item"].decode()]
+    loop = loop_over(port, key, group, handle, ">", count=100, block=100)
     while loop.turn():
         pass
 
@@ -58,16 +55,17 @@ def look(port, key, group):
 def table(port, key, group, path):
     from shared import as_json, shown
     database = sqlite3.connect(path, isolation_level=None)
-    for line in ("PRAGMA journal_mode = WAL", "PRAGMA synchronous = FULL", CREATE):
-        database.execute(line)
+    database.executescript("""PRAGMA journal_mode = WAL; PRAGMA synchronous = FULL;
+        CREATE TABLE IF NOT EXISTS entries (milliseconds INTEGER NOT NULL, sequence INTEGER NOT NULL,
+        fields TEXT NOT NULL, PRIMARY KEY (milliseconds, sequence)) STRICT""")
 
     def row_of(entry):
-        milliseconds, _, sequence = entry[0].partition(b"-")
-        return int(milliseconds), int(sequence), as_json([[shown(it) for it in pair] for pair in entry[1].items()])
+        return *map(int, entry[0].split(b"-")), as_json([[shown(it) for it in pair] for pair in entry[1].items()])
 
     def handle(entries):
         database.execute("BEGIN IMMEDIATE")
-        database.executemany(INSERT, map(row_of, entries))
+        database.executemany("INSERT INTO entries (milliseconds, sequence, fields) VALUES (?1, ?2, ?3)",
+                             map(row_of, entries))
         database.execute("COMMIT")
         return [id for id, _ in entries]
 
@@ -94,23 +92,17 @@ def kill(port, key, group, way):
 
 def handler():
     from jagyerti import jobs
-
-    @jobs.handler
-    def handle(job):
-        job.text("item")
-
-    handle.serve()
+    jobs.handler(lambda job: job.text("item")).serve()
 
 
 def lines():
     for _ in sys.stdin:
-        sys.stdout.write("done\n")
-        sys.stdout.flush()
+        print("done", flush=True)
 
 
 def worker(url, key, group):
     from jagyerti import Worker
-    words = ["--count", "100", "--block", "100", "--until-empty"]
+    words = "--count 100 --block 100 --until-empty".split()
     Worker(url, key, group, "ann", words=words).run(lambda job: job.text("item"))
 
 
