@@ -19,7 +19,6 @@ LOGGED = ("--appendonly", "yes", "--appendfsync", "always")
 
 
 def text(number):
-    """A line, of bytes of any kind."""
     return b"%d tea\t\\ %s\r" % (number, "\u00e9".encode() if number % 2 else b"\xff") + b"." * (number % 50)
 
 
@@ -132,7 +131,6 @@ class Link:
                 self.far.close()
 
     def sent(self):
-        """How many bytes of the program were passed on."""
         return self.passed.get(self.near, 0)
 
     def end(self):

@@ -55,13 +55,11 @@ class Build(NamedTuple):
 
     @property
     def text(self) -> str:
-        """What --version says beside the version."""
         commit = f"commit {self.commit[:12]}" if self.commit else "no commit"
         return f"{'proved' if self.is_proved else 'unproved'}, {commit}{', changed' if self.is_changed else ''}"
 
 
 def read(path: str) -> bytes:
-    """Returns the bytes of a file of the repository."""
     return content(os.path.join(ROOT, path)) or b""
 
 
@@ -203,13 +201,11 @@ def shell_files(build: Build, programs: Dict[str, str]) -> Iterator[tuple[str, s
 
 
 def fill_in(name: str, **values: object) -> bytes:
-    """Returns a file of tools/templates/package, with a value in place of each @NAME@."""
     text = read(f"tools/templates/package/{name}").decode()
     return re.sub(r"@([A-Z]+)@", lambda found: str(values[found[1]]), text).encode()
 
 
 def units(prefix: str) -> Tree:
-    """Returns the units of systemd by their paths, for commands below this prefix."""
     names = [f"jagyerti-{name}@.service" for name in UNITS]
     return {f"lib/systemd/system/{name}": Entry(fill_in(name, PREFIX=prefix)) for name in names}
 

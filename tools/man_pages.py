@@ -29,7 +29,6 @@ def write(name: str, command: completions.Command, version: str, moment: int) ->
 
 
 def write_of_help(name: str, help: str, version: str, moment: int) -> str:
-    """Returns the page of a program: what it prints at --help."""
     about, _, rest = help.partition("\n")
     return "\n".join([*_head(name, about.rstrip("."), version, moment), ".SH DESCRIPTION",
                       *_unfilled(rest.strip())]) + "\n"

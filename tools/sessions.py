@@ -138,12 +138,10 @@ def error(text: str, cause: Optional[str] = None, most: int = 120) -> str:
 
 
 def refusal(text: str, hint: str = "") -> Tuple[bytes, str]:
-    """A reply that is an error, and what is said of it."""
     return f"-{text}\r\n".encode(), "\n".join([f"the server replied {text}", *[hint] * bool(hint)])
 
 
 def in_batches(entries: int, batches: int, what: str = "entry entries") -> str:
-    """How counts are told."""
     one, many = what.split()
     return f"{entries} {one if entries == 1 else many} in {batches} {'batch' if batches == 1 else 'batches'}"
 

@@ -199,7 +199,6 @@ def figures(command: Sequence[str], pattern: str, preload: str = "") -> List[int
 
 
 def requests_of(command: Sequence[str], shim: str) -> List[int]:
-    """How often a run asks for memory, and for more of it, as requests.c counts it."""
     return figures(command, r"requests (\d+) (\d+)", shim)
 
 
@@ -219,13 +218,11 @@ def row(*cells: object) -> None:
 
 
 def head(*names: str) -> None:
-    """Prints the head of a table."""
     row(*names)
     print("|" + "---|" * len(names), flush=True)
 
 
 def table(cells: Dict[str, object]) -> None:
-    """Prints a table of one row."""
     head(*cells)
     row(*cells.values())
     print()
@@ -271,7 +268,6 @@ def processes() -> Dict[int, Process]:
 
 
 def below(top: int, found: Dict[int, Process]) -> List[int]:
-    """The processes below this one."""
     pids = [top]
     for pid in pids:
         pids += [one for one, it in found.items() if it.parent == pid and one not in pids]
@@ -296,7 +292,6 @@ def begin(*works: Callable[[], object]) -> List[threading.Thread]:
 
 
 def join(threads: Iterable[threading.Thread]) -> None:
-    """Waits for all."""
     for thread in threads:
         thread.join()
 

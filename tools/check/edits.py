@@ -23,7 +23,6 @@ class Unfit(Exception):
 
 
 def shelves(name):
-    """Returns the files of the shelf of this name, by crate."""
     found = {}
     for edit in sorted(glob.glob(f"{ROOT}/crates/*/{name}/*")):
         found.setdefault(edit.split("/")[-3], []).append(edit)
@@ -133,7 +132,6 @@ def sources(crate):
 
 
 def size_of(crate):
-    """Returns how long the sources of the crate are: the more, the longer its check takes."""
     return sum(len(text) for _, text in sources(crate))
 
 
