@@ -20,7 +20,6 @@ from jagyerti.cli import completions, make_parser
 # The one that takes longest to build is the first.
 PROGRAMS = ("stream_sqlite", "stream_drain", "stream_run", "stream_top", "stream_fill", "stream_serve")
 LIBRARY, SONAME = "redis_c", "libredis_c.so.0"
-# Prints the name of the toolchain, and the sum of its logic.
 KIT_VERSION = ("rt", "version")
 # Those that take options, and have --help and --version.
 OPTIONED = PROGRAMS[:-1]
@@ -88,7 +87,6 @@ def build_programs(is_proved: bool) -> Dict[str, str]:
         how = "proves and builds these, which takes hours" if is_proved else "compiles these, which takes minutes"
         print(f"{TOOL}: {how}: {', '.join(lacking)}", flush=True)
     if lacking and not is_proved:
-        # (its output is shown as it comes)
         done = subprocess.run([f"{ROOT}/tools/build-program", *lacking, KEPT], stdin=subprocess.DEVNULL, cwd=ROOT,
                               stderr=subprocess.PIPE, text=True, errors="replace", check=False)
         if done.returncode:

@@ -216,7 +216,6 @@ def open_metrics(metrics: Dict[str, Tuple[str, str]], samples: Iterable[str]) ->
     return "\n".join([*lines, "# EOF\n"])
 
 
-# Options of all workers.
 FROM = {"--from <ID>": "Makes a group that is missing: with all entries (0), or with those from then on ($) "
                        "[possible values: 0, $]"}
 READS = {"--block <MS>": "For so many milliseconds the server waits for new entries; 0: without end [default: 5000]",
@@ -234,15 +233,14 @@ invalid: --dead <TIMES> <STREAM>: STREAM must not be KEY | {0} --dead 3 'k'
 """
 
 
-# The texts of an entry's fields, and these as JSON; where a name or a value is no UTF-8, its Base64.
+# The texts of an entry's fields, and these as JSON.
 FIELDS = [
     (["b", "tea", "a", "", "b", "cup"], '[["b","tea"],["a",""],["b","cup"]]'),
     (['a\tb"\\', b"\n\r\x00\x1f/"], '[["a\\tb\\"\\\\","\\n\\r\\u0000\\u001f/"]]'),
     (["\u00e9\U0001f375", b"\xff\x00"], '[["\u00e9\U0001f375",{"base64":"/wA="}]]'),
     ([], "[]"),
 ]
-# What a worker asks, so many entries at once, as the consumer c of the group g, about the stream k. With --dead it asks
-# first what is pending: for the consumer itself, and for anybody.
+# With --dead a worker asks first what is pending: for the consumer itself, and for anybody.
 OWN_PENDING, ALL_PENDING = "XPENDING k g - + 100 c", "XPENDING k g IDLE 50 - + 100"
 NO_NEWS, NO_CLAIM, NO_ENTRIES = b"*-1\r\n", ["0-0", [], []], [["k", []]]
 

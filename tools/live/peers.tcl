@@ -30,8 +30,7 @@ proc begin_anew {} {
 set connections {}
 begin_anew
 
-# A client whose replies are read later. A read with BLOCK is given time to begin its wait, before another client goes
-# on.
+# A client whose replies are read later. A read with BLOCK is given time to begin its wait.
 proc deferred {one args} {
     set blocks [expr {[lsearch -nocase $args block] >= 0}]
     if {$blocks} { set before [s blocked_clients] }
