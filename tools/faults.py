@@ -108,8 +108,7 @@ class Link:
         self.passed = {self.far: 0}
         self.is_cut, self.is_closed, self.held = False, False, b""
         self.came_late = self.added_late = False
-        self.begun = threading.Event()
-        self.thread = threading.Thread(target=self.serve)
+        self.begun, self.thread = threading.Event(), threading.Thread(target=self.serve)
         self.thread.start()
 
     def serve(self):
