@@ -1,6 +1,4 @@
 """The files of an installation, and their paths below a prefix: what tools/install and tools/release have in common."""
-from __future__ import annotations
-
 import glob
 import hashlib
 import os

@@ -1,6 +1,4 @@
 """Writes the man pages of `jagyerti` and its subcommands from their parsers, which print --help too."""
-from __future__ import annotations
-
 import argparse
 import re
 import time

@@ -1,6 +1,4 @@
 """Sessions of programs, as tools/check/try-* play them: what a program sends, says and leaves in files, to the byte."""
-from __future__ import annotations
-
 import contextlib
 import dataclasses
 import fcntl

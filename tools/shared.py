@@ -1,6 +1,4 @@
 """What the tools share: words and ends, clocks, tables, processes, connections, and sessions of programs."""
-from __future__ import annotations
-
 import argparse
 import base64
 import contextlib
