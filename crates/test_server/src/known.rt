@@ -235,18 +235,17 @@ fn make_long_file(rt: &(impl AllocGlobal + Abort)) -> Result<Vec<u8>, AllocError
 fn check_long(rt: &(impl AllocGlobal + Abort)) -> Result<(), FileError> {
     let bytes = make_long_file(rt)?;
     let told = read_ids(rt, &bytes, false)?;
-    check_same(rt, told.len(), 20_000);
+    assert_eq!(rt; told.len(), 20_000);
     for number in 0..20_000usize {
-        check_same(
-            rt,
+        assert_eq!(rt;
             told[number].number(),
-            to_u128(number as u64, number as u64 % 7),
+            to_u128(number as u64, number as u64 % 7)
         );
     }
     // A line has 33 bytes with its end, and its number twice beside these: ten of one digit, 90 of two, and so on.
-    check_same(rt, told[1].place(), 35);
-    check_same(rt, told[10].place(), 350);
-    check_same(rt, told[19_999].place(), 837_737);
+    assert_eq!(rt; told[1].place(), 35);
+    assert_eq!(rt; told[10].place(), 350);
+    assert_eq!(rt; told[19_999].place(), 837_737);
     Ok(())
 }
 
