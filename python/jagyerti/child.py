@@ -24,6 +24,7 @@ PIECE = 65536  # bytes that are passed on at once, and the longest reply
 HANDLER_FAILED = 4  # the status of stream_run if the handler ended or gave a wrong reply
 FINISH = signal.SIGWINCH  # 'finish the job in hand', as nginx and Apache take it; ignored by other programs
 SHARED = ("site-packages", "dist-packages")  # folders that Python finds by itself
+TRIAL = 60.0  # seconds that a handler has to end if there is no job
 ENDS_AT_ONCE = 10.0  # seconds: a handler that ended sooner, with no reply, is broken or has a job that ends it
 KILLS = (-signal.SIGKILL, -signal.SIGTERM)  # statuses of what was ended by another process, or for want of memory
 NO_FILE = re.compile("no such file|cannot find module|could not open|can(no|')t open", re.I)
@@ -41,6 +42,7 @@ class Handling:
     grace: float = 25.0
     retry_after: Optional[float] = None
     retry_most: float = 3600.0
+    has_trial: bool = False
     is_direct: bool = False
     has_deliveries: bool = False
 
@@ -281,6 +283,10 @@ class Child:
             self.broken = ""
             self.run.stop()
 
+    def says_missing(self) -> str:
+        """Returns that the file is missing which its last words name."""
+        return f"cannot run {self.handling.command[0]}: there is no file {self.missing}"
+
     def outcome(self) -> str:
         """Returns how it ended, in words."""
         if self.is_late:
@@ -291,6 +297,28 @@ class Child:
         if self.status < 0:
             return f"the handler was ended by {signal.Signals(-self.status).name}{last}"
         return f"the handler ended with {self.status}{last}"
+
+
+def try_without_job(handling: Handling, prefix: str, say: Callable[[str], None]) -> None:
+    """Starts a handler whose lines have ended, and waits for its end. Raises Failed if that is not with 0.
+
+    One that does not end is killed after TRIAL, and may be started all the same.
+    """
+    child = Child(dataclasses.replace(handling, is_direct=True), prefix, Desk(), lambda _: None)
+    os.close(child.lines)
+    try:
+        with contextlib.suppress(subprocess.TimeoutExpired):
+            child.process.wait(TRIAL)
+    finally:
+        child.kill()
+        child.end()
+        os.close(child.replies)
+    if child.is_killed:
+        say(f"without a job the handler has not ended in {TRIAL:g} seconds")
+    elif child.missing:
+        raise Failed(child.says_missing(), HANDLER_FAILED)
+    elif child.status:
+        raise Failed(f"no job was read: without one {child.outcome()} (--no-trial starts it all the same)", HANDLER_FAILED)
 
 
 def arguments_of(words: Sequence[str], name: str, number: int = 1) -> Optional[List[str]]:

@@ -9,7 +9,7 @@ import threading
 from types import FrameType
 from typing import Callable, Dict, List, Optional, Tuple
 
-from .child import CLOSING, HANDLER_FAILED, Child, Handling, arguments_of
+from .child import CLOSING, HANDLER_FAILED, Child, Handling, arguments_of, try_without_job
 from .connect import Failed
 from .desk import Desk
 from .keeper import Beat, Keeper, Letters, Link, find_deliveries
@@ -43,7 +43,7 @@ class Pair(Tries):
         self.handling, self.tell_figures = handling, report
         self.child: Optional[Child] = None
         self.desk, self.place = Desk(), None
-        self.ends_at_once = 0
+        self.ends_at_once, self.wants_trial = 0, handling.has_trial
         self.rests = Pauses(self.plan.pause)
         self.link = Link(lambda: self.place, self.plan.options, self.say)
         self.keeper, self.beat = self._make_keeper(), None
@@ -120,6 +120,7 @@ class Pair(Tries):
 
         while True:
             try:
+                self._try_handler()
                 status, may_help = self._run_both(found)
             except Failed as failed:
                 if failed.status != HANDLER_FAILED:
@@ -132,6 +133,13 @@ class Pair(Tries):
                 return 0, False
             if not self._may_go_on():
                 return status, False
+
+    def _try_handler(self) -> None:
+        """Tries the handler without a job, if it may not be able to start. Raises Failed."""
+        if self.wants_trial:
+            with self.idle():
+                try_without_job(self.handling, f"{self.name}: ", self.say)
+            self.wants_trial = False
 
     def _run_both(self, find_server: Callable[[], Address]) -> Tuple[int, bool]:
         self.child = None
@@ -173,8 +181,9 @@ class Pair(Tries):
         self._take_failed(why)
         if child.has_worked:
             return True
+        self.wants_trial = self.handling.has_trial
         if child.missing:
-            self.say(f"cannot run {self.handling.command[0]}: there is no file {child.missing}")
+            self.say(child.says_missing())
             return False
         self.ends_at_once += not child.was_killed
         if self.ends_at_once >= MOST_ENDS:

@@ -10,8 +10,9 @@ import sys
 import threading
 import time
 import unittest
+import unittest.mock
 
-from jagyerti.child import Relay
+from jagyerti.child import Handling, Relay, try_without_job
 from jagyerti.desk import Desk
 from jagyerti.process import PACKAGES
 
@@ -109,6 +110,43 @@ class Run(Running):
         why = "ModuleNotFoundError: No module named 'no_such_module'"
         self.assertEqual(said.count(f"the handler ended with 1: {why}\n"), 5)
         self.assertTrue(said.endswith(f"jagyerti run: it ended 5 times in a row before any reply: {why}\n"), said)
+
+    def test_a_handler_that_cannot_start_reads_no_job(self):
+        broken = "import no_such_module\n"
+        said = self.said(self.begin(broken, "--dead", "3", "lost"), 4)
+        self.assertIn("\njagyerti run: no job was read: without one the handler ended with 1: ModuleNotFoundError", said)
+        self.assertNotIn("words", said)
+        said = self.said(self.begin(broken, "--dead", "3", "lost", "--no-trial", "--pause", "0.02"), 4)
+        self.assertEqual(said.count("words"), 5)
+
+    def test_a_handler_is_tried_after_an_end_before_any_reply(self):
+        mark = os.path.join(self.folder, "mark")
+        handler = (f"import os, sys\nif os.path.exists({mark!r}):\n    sys.exit('broken')\n"
+                   f"if sys.stdin.readline():\n    open({mark!r}, 'w')\n    sys.exit('ends')\n")
+        said = self.said(self.begin(handler, "--dead=3", "lost", "--pause", "0.02"), 4)
+        self.assertEqual((said.count("words"), said.count(": ends\n")), (1, 2))
+        self.assertIn("\njagyerti run: no job was read: without one the handler ended with 1: broken (--no-trial", said)
+
+    def test_a_handler_that_works_is_tried_once(self):
+        notes = os.path.join(self.folder, "notes")
+        handler = f"open({notes!r}, 'a').write('x')\n" + DONE
+        self.assertIn("done 2, batches 1", self.said(self.begin(handler, "--dead", "3", "lost"), 0))
+        with open(notes, encoding="ascii") as file:
+            self.assertEqual(file.read(), "xx")
+
+    def test_a_trial_that_does_not_end(self):
+        child = Handling([sys.executable, "-c", "import time; time.sleep(60)"])
+        said = []
+        with unittest.mock.patch("jagyerti.child.TRIAL", 0.1):
+            try_without_job(child, "", said.append)
+        self.assertEqual(said, ["without a job the handler has not ended in 0.1 seconds"])
+
+    def test_a_signal_ends_a_trial(self):
+        running = self.begin("import sys, time\nprint('waits', file=sys.stderr, flush=True)\ntime.sleep(60)\n", "--dead", "3", "lost")
+        while b"waits" not in running.stderr.readline():
+            pass
+        running.terminate()
+        self.assertNotIn("words", self.said(running, 0))
 
     def test_a_line_that_nobody_asked_for(self):
         handler = "import time\nprint('hello', flush=True)\ntime.sleep(60)\n"

@@ -35,8 +35,13 @@ if this is gone. When a job is given up by --dead, it is told why it failed last
 
 A command that ends is started again, after a growing pause if it replied to nothing. After five such ends in a row, each
 within ten seconds, this ends. So a job that ends each command needs --dead with a number up to 4, or a service that starts
-this again. Each end is a delivery of the job in hand: a command that cannot start has --dead give up healthy jobs. A command
-that another process killed is not counted. If one of --processes ends with an error, the others finish their batches and
+this again. Each end is a delivery of the job in hand.
+
+With --dead, COMMAND is first started without a job, and again after an end before any reply: its input is at its end, and
+its status has to be 0. Else this ends with 4. So a command that cannot start costs no job a delivery. A command that does
+not end is killed after 60 seconds, and is started all the same.
+
+A command that another process killed is not counted. If one of --processes ends with an error, the others finish their batches and
 end too.
 After a connection that broke it connects again, without end unless --retry says how often.
 
@@ -83,6 +88,8 @@ def add_parser(subparsers: Any) -> None:
                        help="the command and stream_run share two pipes: a job costs less, but nothing sees a reply that comes "
                        "before its line, which is taken for the reply to it; not with --job-timeout, --retry-after, --metrics, "
                        "--deliveries")
+    group.add_argument("--no-trial", action="store_true",
+                       help="with --dead the command is not tried without a job first")
     group.add_argument("--line-buffered", action="store_true",
                        help="the command is started with 'stdbuf -oL', so that a program of C prints each line at once")
     group.add_argument("--grace", metavar="SECONDS", type=seconds, default=25.0,
@@ -104,7 +111,7 @@ def run(arguments: argparse.Namespace) -> int:
     words = with_claims(with_consumer(words), arguments.retry_after)
     plan = make_plan(arguments, find_program("stream_run", arguments.program), [*([url] if url else []), *words],
                      metrics=arguments.metrics, metrics_prefix="stream_run", count=DEFAULTS["stream_run"])
-    handling = handling_of(arguments)
+    handling = handling_of(arguments, arguments_of(words, "--dead", 2) is not None)
     if arguments.cluster:
         if arguments.processes != 1:
             raise Failed("--cluster and --processes exclude each other: each partition has a command", USAGE)
@@ -113,8 +120,8 @@ def run(arguments: argparse.Namespace) -> int:
     return Crew(plan, handling, arguments.processes).run_to_the_end()
 
 
-def handling_of(arguments: argparse.Namespace) -> Handling:
-    """Returns how jobs are handled."""
+def handling_of(arguments: argparse.Namespace, gives_up: bool) -> Handling:
+    """Returns how jobs are handled. If jobs are given up, the command is tried without one."""
     after, most = arguments.retry_after, arguments.retry_most
     if most is not None and (after is None or most < after):
         raise Failed("--retry-most is for --retry-after, and not below it", USAGE)
@@ -124,7 +131,7 @@ def handling_of(arguments: argparse.Namespace) -> Handling:
     find_command(arguments.after)
     command = line_buffered(arguments.after) if arguments.line_buffered else arguments.after
     return Handling(command, arguments.job_timeout, arguments.grace, after, max(3600.0, after or 0) if most is None else most,
-                    arguments.direct, arguments.deliveries)
+                    gives_up and not arguments.no_trial, arguments.direct, arguments.deliveries)
 
 
 def line_buffered(command: List[str]) -> List[str]:
