@@ -25,7 +25,7 @@ replies with a line on its standard output: 'done', 'later TEXT', 'dead TEXT' or
 of its consumer.
 
 The reply {"done":true,"add":[["results",{"id":"7"}]]} is 'done' too, and adds entries to other streams first. With --dead N
-STREAM an entry that is replied 'dead TEXT' goes to STREAM at once, and any other after N deliveries.
+STREAM an entry that is replied 'dead TEXT' goes to STREAM with its batch, and any other after N deliveries.
 
 All other options are those of stream_run, which 'jagyerti run -- --help' shows. CONSUMER is the host's name, if it is
 left out. With --processes N there are N commands, each with a stream_run, as CONSUMER.1 to CONSUMER.N.
