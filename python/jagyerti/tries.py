@@ -22,6 +22,9 @@ from .url import Address
 GOOD_RUN = 60.0  # seconds after which the count of tries begins anew
 TOGETHER = 0.3  # seconds in which two signals are one: timeout(1) sends its to a process, and then to the group of it
 CLOSED = re.compile(r"error: (.*: )?the server closed the connection\.?", re.I)
+UNSAFE = 5  # the status if another start could acknowledge entries that are not on the disk
+NOT_AGAIN = re.compile(r"error: cannot write (the file: .*\(os error 5\)|the line of the entry .*: "
+                       r"(a line of its id is there with other fields|the file was changed))", re.I)
 COUNTS = re.compile(r"([0-9]+) (entry|entries|records?) in ")
 
 
@@ -234,6 +237,9 @@ class Tries:
         if status < 0:
             self.say(f"the program was ended by {signal.Signals(-status).name}")
             return 128 - status, True
+        if status == FAILED and NOT_AGAIN.match(self.error):
+            self.say("it is not started again: look at the file and the stream first")
+            return UNSAFE, False
         silence = self.plan.silence
         if status == FAILED and silence and silent >= silence * 1000 - 20 and has_asked:
             self.say(f"the server said nothing for {silent / 1000:.1f} seconds, --block and --timeout together")

@@ -116,6 +116,16 @@ class Command(Running):
         said = running.communicate(timeout=60)[1].decode()
         self.assertEqual((said.count("no connection with"), said.count("tries again"), running.returncode), (3, 2, 1))
 
+    def test_no_retry_if_it_could_acknowledge_what_is_not_there(self):
+        again = "jagyerti drain: it is not started again: look at the file and the stream first\n"
+        for error in ("cannot write the file: Input/output error (os error 5)",
+                      "cannot write the line of the entry 5-1: a line of its id is there with other fields",
+                      "cannot write the line of the entry 5-1: the file was changed"):
+            running = self.started(f'print("Error: {error}", file=sys.stderr); sys.exit(1)', "--retry", "forever")
+            self.connection.sendall(b"x")
+            self.connection.close()
+            self.ends(running, 5, f"Error: {error}\n{again}")
+
     def test_retry_if_the_connection_broke_before_anything_was_sent(self):
         for then, tries in ((RESET, 2), (FULL, 0)):
             running = self.start("drain", "--program", self.fake(then), self.url, "k", "g", "c", "f", "--retry", "2",
