@@ -42,6 +42,8 @@ class Link:
         with self.lock:
             if time.monotonic() < self.rests_until:
                 raise Failed("the connection failed a moment ago")
+            if self.find_server() is None:
+                raise Failed("no server is known yet")
             was_open = self.connection is not None
             try:
                 reply = self._ask_once(*words)
@@ -56,8 +58,7 @@ class Link:
         try:
             if self.connection is None:
                 server = self.find_server()
-                if server is None:
-                    raise Failed("no server is known yet")
+                assert server is not None
                 self.connection = connect.open(server, self.options)
             return resp.ask_all(self.connection, [words])[0]  # which reads more than a byte at once
         except resp.ReplyError as error:
