@@ -1,3 +1,0 @@
-//! The results of both calls, and the codes of single entries.
-mod answers;
-mod status;
