@@ -11,7 +11,7 @@ import socket
 import threading
 import time
 
-from shared import begin, begun_below, join, resp
+from shared import begin, below, join, resp
 
 UNCUT = None, math.inf
 # The words of a server that has its log on the disk before it replies.
@@ -87,8 +87,8 @@ def kill(pid):
 def child_of(ran):
     """The first process that a command has begun, once it has; None if the command ended before."""
     while ran.poll() is None:
-        if found := begun_below(ran.pid):
-            return found[0]
+        if found := below(ran.pid):
+            return next(iter(found))
         time.sleep(0.001)
     return None
 

@@ -2,6 +2,7 @@
 import argparse
 import base64
 import contextlib
+import glob
 import json
 import os
 import pathlib
@@ -14,7 +15,7 @@ import subprocess
 import sys
 import threading
 import time
-from typing import Any, Callable, Dict, Iterable, Iterator, List, NamedTuple, Optional, Sequence, Tuple, Union
+from typing import Any, Callable, Dict, Iterable, Iterator, List, Optional, Sequence, Tuple, Union
 
 sys.dont_write_bytecode = True
 ROOT = os.path.dirname(os.path.dirname(os.path.abspath(__file__)))
@@ -245,40 +246,23 @@ def until(holds: Callable[[], object], seconds: float, what: str) -> None:
     raise TimeoutError(f"{what}: not within {seconds} seconds")
 
 
-class Process(NamedTuple):
-    """A process: its parent, the seconds of a processor that it and its ended children took, and its words."""
-
-    parent: int
-    seconds: float
-    words: List[str]
-
-
-def processes() -> Dict[int, Process]:
-    """All processes that are not over."""
-    found = {}
-    for name in filter(str.isdigit, os.listdir("/proc")):
-        with contextlib.suppress(OSError):
-            state, *fields = text_of(f"/proc/{name}/stat").rpartition(")")[2].split()
-            if state != "Z":
-                seconds = sum(map(int, fields[10:14])) / os.sysconf("SC_CLK_TCK")
-                found[int(name)] = Process(int(fields[0]), seconds, text_of(f"/proc/{name}/cmdline").split("\0"))
-    return found
-
-
-def below(top: int, found: Dict[int, Process]) -> List[int]:
-    pids = [top]
+def below(top: int) -> Dict[int, int]:
+    """The processes below this one, each with its parent. It takes less than a millisecond."""
+    pids, parents = [top], {}
     for pid in pids:
-        pids += [one for one, it in found.items() if it.parent == pid and one not in pids]
-    return pids[1:]
+        for children in glob.glob(f"/proc/{pid}/task/*/children"):
+            with contextlib.suppress(OSError):
+                begun = list(map(int, text_of(children).split()))
+                parents.update(dict.fromkeys(begun, pid))
+                pids += begun
+    return parents
 
 
-def begun_below(top: int) -> List[int]:
-    """The processes below this one, begun in the first thread of their parents. It takes less than a millisecond."""
-    pids = [top]
-    for pid in pids:
-        with contextlib.suppress(OSError):
-            pids += map(int, text_of(f"/proc/{pid}/task/{pid}/children").split())
-    return pids[1:]
+def words_of_process(pid: int) -> List[str]:
+    """The words of a process, none if it is over."""
+    with contextlib.suppress(OSError):
+        return text_of(f"/proc/{pid}/cmdline").split("\0")[:-1]
+    return []
 
 
 def begin(*works: Callable[[], object]) -> List[threading.Thread]:
