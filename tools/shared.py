@@ -24,7 +24,6 @@ from jagyerti import connect, process, resp, server as servers
 
 TOOL = os.path.basename(sys.argv[0])
 TOOLS, JAGYERTI = f"{ROOT}/tools", f"{ROOT}/bin/jagyerti"
-Place = Union[str, Tuple[str, int]]
 # What a tool says at --help that ends as all do.
 STATUS = ("\n\nExit status: 0 if all is as it has to be, 1 if not; 2 for other words, or if something that it wants is "
           "not there.")
@@ -33,23 +32,18 @@ MADE = {"docs/COMMANDS.md", "docs/internals/PROVED.md", "docs/internals/VECTORS.
 SIMPLE, SIZED = (b"+", b"-", b"_", b":", b",", b"#", b"("), (b"$", b"=", b"!", b"*", b"~", b">", b"%", b"|")
 
 
-def words_of(doc: Optional[str], *places: Place, **options: Any) -> argparse.Namespace:
+def words_of(doc: Optional[str], *places: str, **options: Any) -> argparse.Namespace:
     """Reads the words of a tool, whose `doc` is printed at --help, and at other words, with which it ends with 2.
 
-    A place is a name, with what argparse calls nargs behind it, or a name and the number that it is without a word. The
-    usual value of an option says what it takes: False takes nothing, None and '' a text, a number a number, and an
-    empty list all words after it, or None without it.
+    A place is a name, with what argparse calls nargs behind it. The usual value of an option says what it takes: False
+    takes nothing, None and '' a text, a number a number, and an empty list all words after it, or None without it.
     """
     parser = argparse.ArgumentParser()
     told = (doc or "").strip() + ("" if "Exit status" in (doc or "") else STATUS)
     parser.format_help = parser.format_usage = lambda: f"{told}\n"  # type: ignore[method-assign]
-    number = lambda text: int(text) if text.isdigit() else parser.error(f"no number: {text}")
     for place in places:
-        if isinstance(place, str):
-            name = place.rstrip("?*+.")
-            parser.add_argument(name, nargs=place[len(name):] or None)
-        else:
-            parser.add_argument(place[0], nargs="?", default=place[1], type=number)
+        name = place.rstrip("?*+.")
+        parser.add_argument(name, nargs=place[len(name):] or None)
     for option, usual in options.items():
         kind: Dict[str, Any] = {"default": usual, "type": str if usual is None else type(usual)}
         if usual is False or isinstance(usual, list):
@@ -177,6 +171,23 @@ def crates_below(*names: str) -> List[str]:
     for each in found:
         found += [it for it in uses.get(each, []) if it in uses and it not in found]
     return found
+
+
+def of_crate(crate: str, file: str) -> bytes:
+    return content(f"{ROOT}/crates/{crate}/{file}") or b""
+
+
+def short_run(crate: str) -> Tuple[bytes, bytes]:
+    """The input that a program is run on, and its right output. If it has a file `sweep`, they are of its cases alone:
+    lines that begin with one and a tab, or paragraphs with the title of one."""
+    stdin, stored, swept = (of_crate(crate, file) for file in ("stdin", "stdout", "sweep"))
+    if not swept:
+        return stdin, stored
+    if swept.startswith(b"#"):
+        parts = {text.split(b"\n")[0]: text + b"\n\n" for text in stored.split(b"\n\n")}
+        return swept, b"".join(parts[script.split(b"\n")[0]] for script in swept.split(b"\n\n"))
+    parts = {line.rsplit(b"\t", 1)[0]: line for line in stored.splitlines(keepends=True)}
+    return swept, b"".join(parts[case] for case in swept.splitlines())
 
 
 def taken(work: Callable[[], object]) -> Tuple[float, float]:
