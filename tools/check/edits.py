@@ -1,6 +1,7 @@
 """Wrong bodies, as tools/check/refused and tools/check/planted try them: each in a copy of its crate, where the prover
 is asked for the functions that are named alone, and for those that they call. So what a body costs does not grow
 with the crate. 'rt ci' would prove a crate once more for bodies in a folder must-fail/."""
+import contextlib
 import glob
 import os
 import re
@@ -9,7 +10,7 @@ import subprocess
 import tempfile
 import threading
 
-from shared import fail, text_of as read, write
+from shared import TOOL, fail, text_of as read, write
 from unproved import KIT, ROOT, crate_of
 
 PARTS = ("src", "specs", "proofs")
@@ -196,3 +197,137 @@ def told_of(names, texts, told):
     is_of = lambda it, tops: any(it[0].startswith(top) and name in it[0] for top, name in tops)
     return [it for it in told if it[:2] in lines or is_of(it, folders)] or [
         it for it in told if is_of(it, [("proofs/", name) for _, name in folders])]
+
+
+def function_at(text, place):
+    """Returns the name of the function in which this place of a file is, and the type of its impl if it is in one."""
+    inside = [it for it in functions_in(text) if it[2] <= text.find("\n", place) + 1 and place < it[3]]
+    return inside[-1][:2] if inside else (None, "")
+
+
+def path_at(crate, path, place):
+    """Returns the path, as the prover names it, of the function in which this place of a file is, or None. A method is
+    named after the module of its type; in an impl of a trait, after its own, with the trait's name behind the
+    type's."""
+    module = module_of(path)
+    text = read(f"{ROOT}/crates/{crate}/{path}") if module is not None else ""
+    name, owner = function_at(text, place)
+    if name is None:
+        return None
+    if owner:
+        heads = [*re.finditer(r"(?m)^impl\b(?:<[^{]*?>)? (?:(?:\w+::)*(\w+)[^{\n]*? for )?\w+", text[:place])]
+        declared = re.compile(rf"(?m)^(?:pub(?:\([^)]*\))? )?(?:struct|enum) {owner}\b")
+        homes = {module_of(other) for other, whole in sources(crate) if declared.search(whole)}
+        module = homes.pop() if not heads[-1][1] and len(homes) == 1 else module
+        owner += heads[-1][1] or ""
+    return "::".join(it for it in (module, owner, name) if it)
+
+
+class Body:
+    """A wrong body: the functions that it changes as the prover names them, their files and names; none if it changes
+    something else, and names no function."""
+
+    def __init__(self, shelf, edit):
+        function, _, sites = edited(shelf.crate, edit)
+        self.edit, self.exact, self.names = edit, {function} - {None}, set()
+        # (what it changes may be used by the functions of others)
+        self.is_alone = bool(function)
+        for path, place in sites:
+            module = module_of(path)
+            name, owner = function_at(read(f"{ROOT}/crates/{shelf.crate}/{path}"), place) if module is not None else (
+                None, "")
+            known = {path_at(shelf.crate, path, place)} & {*shelf.functions}
+            fits = [it for it in shelf.functions if it.startswith(f"{module}::" * bool(module))
+                    and it.split("::")[-1] == name]
+            own = [it for it in fits if not owner or it.split("::")[-2:-1] and it.split("::")[-2].startswith(owner)]
+            if not (function or known or fits):
+                self.exact, self.names = set(), set()
+                return
+            self.exact.update([] if function else known or own or fits)
+            self.names.add((path, function.split("::")[-1] if function else name))
+
+
+class Shelf:
+    """The bodies of a crate, and what is proved of the crate as it is."""
+
+    word = "refused"
+
+    def __init__(self, crate, edits):
+        self.crate, self.edits, self.left, self.room = crate, edits, len(edits), tempfile.mkdtemp(prefix=f"{TOOL}-")
+        self.lock, self.is_whole, self.functions, self.calls = threading.Lock(), False, [], None
+
+    def prove(self, functions):
+        """Checks these functions of the crate as it is, or all of it if there are none."""
+        said, status = checked(self.crate, {}, functions, f"{self.room}/kept")
+        if status == 2 and functions:
+            # (the prover gives one of them another name)
+            self.is_whole = True
+            return self.prove([])
+        if status:
+            raise Unfit("it is not proved as it is, so nothing was tried:\n" + "\n".join(said[-30:]))
+        self.functions = re.findall(rf"(?m)^fn {re.escape(self.crate)}::(\S+): proved$",
+                                    "\n".join(said)) or self.functions
+
+    def begun(self, is_proved=False):
+        """Proves what the bodies change, if it is not known to be proved. Returns why they cannot be tried, and the
+        groups that are tried at once."""
+        try:
+            os.mkdir(f"{self.room}/kept")
+            functions = set()
+            for edit in self.edits:
+                function, _, sites = edited(self.crate, edit)
+                paths = {function} if function else {path_at(self.crate, path, place) for path, place in sites}
+                functions |= paths if None not in paths else set()
+            # (a crate whose bodies all change definitions is proved whole when the first of them is tried)
+            if functions and not is_proved:
+                self.prove(sorted(functions))
+            self.calls = Calls(self.crate)
+            return [], groups_of([Body(self, edit) for edit in self.edits], self.is_apart)
+        except (Unfit, OSError) as why:
+            self.left = 0
+            return [(False, f"{TOOL} {self.crate}: {why}")], []
+
+    def is_apart(self, body, other):
+        """Whether no function of the body is one of the other, or calls one, or is called by one."""
+        if any(it.is_alone or not it.exact for it in (body, other)):
+            return False
+        return self.calls.are_apart({name for _, name in body.names}, {name for _, name in other.names})
+
+    def try_in(self, texts, functions):
+        """Returns what the check of these functions said, and its status, over a copy of what is kept."""
+        if not functions:
+            with self.lock:
+                if not self.is_whole:
+                    self.prove([])
+                    self.is_whole = True
+        with tempfile.TemporaryDirectory(prefix=f"{TOOL}-") as room:
+            with self.lock:
+                shutil.copytree(f"{self.room}/kept", f"{room}/kept", symlinks=True, copy_function=linked)
+            return checked(self.crate, texts, functions, f"{room}/kept")
+
+    def try_group(self, group):
+        """Tries a group at once. Returns of each body a line that it is refused, or None, and what the check said."""
+        texts = {}
+        for body in group:
+            texts = edited(self.crate, body.edit, texts)[1]
+        exact = sorted(set().union(*(body.exact for body in group)))
+        said, status = self.try_in(texts, exact)
+        if status != 1 or any(re.search(r"\berror\[[\w-]+\]", line) for line in said):
+            return [None] * len(group), said
+        lost, lines = lost_in(said), []
+        for body in group:
+            where = [it for it in sorted(body.exact) if f"{self.crate}::{it}" in lost]
+            why = first_of(told_of(body.names, texts, reasons(said)) or reasons(said))
+            lines.append(f"{self.label(body)}: {self.word}, in {' '.join(where)}: {why}" if where else None)
+        return lines, said
+
+    def label(self, body):
+        return f"{TOOL} {self.crate}/{os.path.basename(body.edit)}"
+
+
+def linked(source, target):
+    """Copies a file: what is proved as a second name of it, since a check replaces such a file and changes none."""
+    with contextlib.suppress(OSError):
+        if source.endswith(".oantt"):
+            return os.link(source, target)
+    return shutil.copy2(source, target)
