@@ -129,9 +129,6 @@ class Link:
             if not self.held:
                 self.far.close()
 
-    def sent(self):
-        return self.passed.get(self.near, 0)
-
     def end(self):
         """Ends it, if no program has connected."""
         with contextlib.suppress(OSError):
