@@ -23,7 +23,7 @@ abbrev pub is_streams_script : List ℕ → Bool
 is_streams_script name = if bytes_eq name (codes "streams") then true
     else false
 
--- whether `together` plays a script of this name
+-- whether `faults::together` plays a script of this name
 abbrev pub is_together_script : List ℕ → Bool
 is_together_script name = if bytes_eq name (codes "cuts") then true
     else if bytes_eq name (codes "crashes") then true
@@ -43,7 +43,7 @@ abbrev pub is_producer_script : List ℕ → Bool
 is_producer_script name = if bytes_eq name (codes "producer") then true
     else false
 
--- whether `both_ends` plays a script of this name
+-- whether `faults::both_ends` plays a script of this name
 abbrev pub is_both_ends_script : List ℕ → Bool
 is_both_ends_script name = if bytes_eq name (codes "both-ends") then true
     else false

@@ -14,21 +14,29 @@
 //! | `connection` and sizes | a step of a connection, see `workers::connection`; once for reads of each size |
 //! | `ends 7` | bytes that arrive; a worker makes 7 rounds over all of them, and over each proper prefix |
 //! | `streams 3 8 a b` | a command; then a worker for each stream, 8 turns each |
-//! | `cuts 2`, `crashes 2 60`, `gone 2 30`, `schedules 1000` | none, see `together` |
+//! | `cuts 2`, `crashes 2 60`, `gone 2 30`, `schedules 1000` | none, see `faults::together` |
 //! | `settles 2 3` | none; two workers handle 3 entries |
 //! | `outbox`, `poison` | a step of a worker, or a command to its server, see `outbox` |
 //! | `producer 100 2 3` | a step of a producer, see `producer` |
-//! | `both-ends` | runs of a producer and a worker over one server, see `both_ends` |
+//! | `both-ends` | runs of a producer and a worker over one server, see `faults::both_ends` |
 //!
 //! The exit status is 0, or 2 if memory runs out, or if standard input or output fails.
 #![tactic(auto)]
 
-mod both_ends;
+/// Plays a script, and returns that there is one of this name.
+macro_rules! played {
+    ($play:expr) => {{
+        $play?;
+        Ok(true)
+    }};
+}
+
+mod faults;
 mod outbox;
 mod producer;
-mod together;
 mod workers;
 
+use crate::faults::{both_ends, together};
 use crate::workers::{connection, letters, streams};
 use redis_wire::{Decoded, Limits, Reply, WireError, command_words, decode};
 use server_commands::{Client, Protocol, Server, Session, append_reply};
@@ -74,26 +82,12 @@ fn play_titled(alloc: Global, script: &str, out: &mut String) -> Result<(), Allo
     play(alloc, script, out)
 }
 
-/// Plays a script that has no title.
+/// Plays a script that has no title, with the module that knows its name.
 fn play(alloc: Global, script: &str, out: &mut String) -> Result<(), AllocError> {
     let (head, lines) = split_at_mark(script, '\n');
     let (name, words) = split_at_mark(head, ' ');
-    match name {
-        "server" => play_commands(alloc, words, lines, out),
-        "bytes" => play_bytes(alloc, lines, out),
-        _ => play_module(alloc, name, words, lines, out),
-    }
-}
-
-/// Plays a script with the module that knows its name.
-fn play_module(
-    alloc: Global,
-    name: &str,
-    words: &str,
-    lines: &str,
-    out: &mut String,
-) -> Result<(), AllocError> {
-    let is_played = workers::play(alloc, name, words, lines, out)?
+    let is_played = play_server(alloc, name, words, lines, out)?
+        || workers::play(alloc, name, words, lines, out)?
         || letters::play(alloc, name, lines, out)?
         || connection::play(alloc, name, words, lines, out)?
         || streams::play(alloc, name, words, lines, out)?
@@ -137,31 +131,9 @@ fn make_group_settings(alloc: Global, key: &str, consumer: &str) -> Result<Setti
     Ok(settings)
 }
 
-/// Returns the settings of a worker of the stream `k` that creates the group. After every two reads of new entries
-/// it claims those that were idle for `idle` milliseconds.
-fn make_claim_settings(
-    alloc: Global,
-    consumer: &str,
-    count: usize,
-    idle: usize,
-) -> Result<Settings, AllocError> {
-    let mut settings = make_group_settings(alloc, "k", consumer)?;
-    settings.set_count(count).unwrap_or(());
-    settings.set_every(2);
-    settings.set_min_idle(idle);
-    Ok(settings)
-}
-
 /// Parses a word as a number; 0 if it is not one.
 fn parse_number(word: &str) -> usize {
     word.parse::<usize>().unwrap_or(0)
-}
-
-/// Returns the next number of a pseudo-random sequence.
-fn draw_next(state: u64) -> u64 {
-    state
-        .wrapping_mul(6_364_136_223_846_793_005)
-        .wrapping_add(1_442_695_040_888_963_407)
 }
 
 /// Appends a line.
@@ -277,68 +249,72 @@ fn format_commands(alloc: Global, bytes: &[u8]) -> Result<String, AllocError> {
 
 // A server in memory.
 
-/// Returns RESP3 if the word is `3`, and RESP2 otherwise.
-fn parse_protocol(word: &str) -> Protocol {
-    if parse_number(word) == 3 {
-        Protocol::Resp3
-    } else {
-        Protocol::Resp2
+/// A server and one connection to it.
+#[derive(Drop)]
+struct Peer {
+    server: Server,
+    session: Session,
+}
+
+impl Peer {
+    /// Returns a new server, and a connection over RESP3 if the word is `3`, or over RESP2.
+    fn new(alloc: Global, word: &str) -> Peer {
+        let protocol = if word == "3" {
+            Protocol::Resp3
+        } else {
+            Protocol::Resp2
+        };
+        Peer {
+            server: Server::new(alloc),
+            session: Session::new(alloc, protocol),
+        }
     }
 }
 
 /// Executes a command, and returns the bytes of the reply.
-fn run_command(
-    alloc: Global,
-    server: &mut Server,
-    now: u64,
-    session: &mut Session,
-    words: Vec<Vec<u8>>,
-) -> Result<Vec<u8>, AllocError> {
-    let reply = server.step(alloc, now, session, words)?;
+fn run_command(alloc: Global, peer: &mut Peer, words: Vec<Vec<u8>>) -> Result<Vec<u8>, AllocError> {
+    let reply = peer.server.step(alloc, 0, &mut peer.session, words)?;
     let mut bytes = Vec::new(alloc);
-    append_reply(alloc, &mut bytes, session.protocol, &reply)?;
+    append_reply(alloc, &mut bytes, peer.session.protocol, &reply)?;
     Ok(bytes)
 }
 
 /// Executes the command of a line, and returns the bytes of the reply.
-fn run_line(
-    alloc: Global,
-    server: &mut Server,
-    session: &mut Session,
-    line: &str,
-) -> Result<Vec<u8>, AllocError> {
+fn run_line(alloc: Global, peer: &mut Peer, line: &str) -> Result<Vec<u8>, AllocError> {
     let mut words = Vec::new(alloc);
     for word in line.split(' ') {
         words.push(parse_bytes(alloc, word)?)?;
     }
-    run_command(alloc, server, 0, session, words)
+    run_command(alloc, peer, words)
 }
 
 /// Executes the command of each line, and prints the replies.
 fn run_lines(
     alloc: Global,
-    server: &mut Server,
-    session: &mut Session,
+    peer: &mut Peer,
     lines: &str,
     out: &mut String,
 ) -> Result<(), AllocError> {
     for line in lines.lines() {
-        let reply = run_line(alloc, server, session, line)?;
+        let reply = run_line(alloc, peer, line)?;
         push_exchange(out, line, escape_bytes(alloc, &reply)?.as_str())?;
     }
     Ok(())
 }
 
-/// Executes commands on a new server.
-fn play_commands(
+/// Plays a script of commands or of bytes, if it has one of these names. Returns whether it has.
+fn play_server(
     alloc: Global,
+    name: &str,
     words: &str,
     lines: &str,
     out: &mut String,
-) -> Result<(), AllocError> {
-    let mut server = Server::new(alloc);
-    let mut session = Session::new(alloc, parse_protocol(words));
-    run_lines(alloc, &mut server, &mut session, lines, out)
+) -> Result<bool, AllocError> {
+    match name {
+        "server" => played!(run_lines(alloc, &mut Peer::new(alloc, words), lines, out)),
+        "bytes" => played!(play_bytes(alloc, lines, out)),
+        _ => Ok(false),
+    }
 }
 
 /// Returns the replies to a client that sends these bytes to a new server.

@@ -55,31 +55,18 @@ pub fn play(alloc: Global, name: &str, lines: &str, out: &mut String) -> Result<
     ensures { IfOk result (λ played. played ≡ is_outbox_script name.now) }
 {
     match name {
-        "outbox" | "poison" => {
-            play_alone(alloc, lines, out)?;
-            Ok(true)
-        }
+        "outbox" | "poison" => played!(play_alone(alloc, lines, out)),
         _ => Ok(false),
     }
 }
 
 /// Plays the lines over a server of their own.
 fn play_alone(alloc: Global, lines: &str, out: &mut String) -> Result<(), AllocError> {
-    match Loopback::new(alloc, Server::new(alloc)) {
-        Ok(loopback) => play_over(alloc, &loopback, lines, out),
-        Err(_error) => Err(AllocError),
-    }
-}
-
-/// Plays the lines over this server.
-fn play_over(
-    alloc: Global,
-    loopback: &Loopback,
-    lines: &str,
-    out: &mut String,
-) -> Result<(), AllocError> {
+    let Ok(loopback) = Loopback::new(alloc, Server::new(alloc)) else {
+        return Err(AllocError);
+    };
     let mut side = make_side(alloc)?;
-    play_lines(alloc, loopback, &mut side, lines, out)
+    play_lines(alloc, &loopback, &mut side, lines, out)
 }
 
 /// Plays the lines, and prints the outcome of each.

@@ -36,10 +36,7 @@ pub fn play(
     ensures { IfOk result (λ played. played ≡ is_producer_script name.now) }
 {
     match name {
-        "producer" => {
-            play_lines(alloc, words, lines, out)?;
-            Ok(true)
-        }
+        "producer" => played!(play_lines(alloc, words, lines, out)),
         _ => Ok(false),
     }
 }

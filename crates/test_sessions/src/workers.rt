@@ -178,12 +178,6 @@ fn read_side_reply(alloc: Global, side: &mut Side, bytes: &[u8]) -> Result<Strin
     )
 }
 
-/// Passes the reply in a text to the worker of a side.
-fn read_text(alloc: Global, side: &mut Side, text: &str) -> Result<String, AllocError> {
-    let bytes = parse_bytes(alloc, text)?;
-    read_side_reply(alloc, side, &bytes)
-}
-
 /// Passes each proper prefix of a reply to the worker of a side. Returns the results, and the count of prefixes.
 fn read_prefixes(alloc: Global, side: &mut Side, text: &str) -> Result<String, AllocError> {
     let bytes = parse_bytes(alloc, text)?;
@@ -242,21 +236,6 @@ impl Spans {
     }
 }
 
-/// Executes a step that instructs the handler.
-fn instruct_handler(
-    alloc: Global,
-    handler: &mut ScriptHandler,
-    verb: &str,
-    rest: &str,
-) -> Result<String, AllocError> {
-    match verb {
-        "says" => handler.set_verdicts(rest)?,
-        "refuses" => handler.fails_commits = rest == "yes",
-        _ => return String::from_str(alloc, "no line of a worker"),
-    }
-    Ok(String::new(alloc))
-}
-
 /// Replaces the worker of a side with one that acknowledges these entries first.
 fn resume_worker(alloc: Global, side: &mut Side, ids: &str) -> Result<String, AllocError> {
     let mut committed = Vec::new(alloc);
@@ -271,10 +250,15 @@ fn resume_worker(alloc: Global, side: &mut Side, ids: &str) -> Result<String, Al
 fn do_step(alloc: Global, side: &mut Side, verb: &str, rest: &str) -> Result<String, AllocError> {
     match verb {
         "ask" => make_request(alloc, &mut side.worker, &mut side.handler),
-        "tell" => read_text(alloc, side, rest),
+        "tell" => read_side_reply(alloc, side, parse_bytes(alloc, rest)?.as_slice()),
         "fronts" => read_prefixes(alloc, side, rest),
         "resumes" => resume_worker(alloc, side, rest),
-        _ => instruct_handler(alloc, &mut side.handler, verb, rest),
+        "says" => side.handler.set_verdicts(alloc, rest),
+        "refuses" => {
+            side.handler.fails_commits = rest == "yes";
+            Ok(String::new(alloc))
+        }
+        _ => String::from_str(alloc, "no line of a worker"),
     }
 }
 
@@ -318,10 +302,7 @@ pub fn play(
     ensures { IfOk result (λ played. played ≡ is_worker_script name.now) }
 {
     match name {
-        "worker" => {
-            play_both(alloc, words, lines, out)?;
-            Ok(true)
-        }
+        "worker" => played!(play_both(alloc, words, lines, out)),
         _ => Ok(false),
     }
 }
@@ -401,12 +382,12 @@ impl ScriptHandler {
         }
     }
 
-    /// Sets the verdicts on the next entries.
-    fn set_verdicts(&mut self, words: &str) -> Result<(), AllocError> {
+    /// Sets the verdicts on the next entries. Returns no text, as the result of the step.
+    fn set_verdicts(&mut self, alloc: Global, words: &str) -> Result<String, AllocError> {
         for word in words.split(' ') {
             self.verdicts.insert(0, parse_verdict(word))?;
         }
-        Ok(())
+        Ok(String::new(alloc))
     }
 
     /// Returns an error if memory was refused to the handler.

@@ -300,63 +300,7 @@ fn format_pipelined(alloc: Global, pipelined: Pipelined) -> Result<String, Alloc
     }
 }
 
-/// The subject of a line.
-#[derive(Clone, Copy)]
-enum Subject {
-    /// The reader or the writer, which were set up before the first line was executed.
-    Ends,
-    Command,
-    Reply,
-    Rounds,
-    Worker,
-}
-
-/// Returns the subject of a line whose first word is `verb`.
-fn find_subject(verb: &str) -> Subject {
-    match verb {
-        "comes" | "reads" | "writes" => Subject::Ends,
-        "send" | "text" | "number" => Subject::Command,
-        "receive" | "place" | "any" | "passed" | "show" | "give" => Subject::Reply,
-        "run" | "pipeline" => Subject::Rounds,
-        _ => Subject::Worker,
-    }
-}
-
-/// Sends a command, and may read its reply.
-fn handle_command<R: Read + Drop, W: Write + Drop>(
-    alloc: Global,
-    link: &mut Connection<R, W>,
-    verb: &str,
-    rest: &str,
-) -> Result<String, AllocError> {
-    match verb {
-        "send" => send_command(alloc, link, rest),
-        "text" => ask_value::<String, R, W>(alloc, link, rest),
-        _ => ask_value::<usize, R, W>(alloc, link, rest),
-    }
-}
-
-/// Receives a reply, prints or removes its bytes, or counts the messages that were skipped.
-fn handle_reply<R: Read + Drop, W: Write + Drop>(
-    alloc: Global,
-    link: &mut Connection<R, W>,
-    verb: &str,
-    len: usize,
-) -> Result<String, AllocError> {
-    match verb {
-        "receive" => format_received(alloc, &link.receive(alloc)),
-        "any" => format_received(alloc, &link.receive_any(alloc)),
-        "passed" => format!(in alloc; "{}", link.passed()),
-        "place" => receive_in_place(alloc, link),
-        "show" => escape_bytes(alloc, link.received(len)),
-        _ => {
-            link.give_out(len);
-            Ok(String::new(alloc))
-        }
-    }
-}
-
-/// Executes a line, and returns its result.
+/// Executes a line, and returns its result. The reader and the writer were set up before the first line.
 fn do_line<R: Read + Drop, W: Write + Drop>(
     alloc: Global,
     link: &mut Connection<R, W>,
@@ -364,18 +308,23 @@ fn do_line<R: Read + Drop, W: Write + Drop>(
     line: &str,
 ) -> Result<String, AllocError> {
     let (verb, rest) = split_at_mark(line, ' ');
-    match find_subject(verb) {
-        Subject::Ends => Ok(String::new(alloc)),
-        Subject::Command => handle_command(alloc, link, verb, rest),
-        Subject::Reply => handle_reply(alloc, link, verb, parse_number(rest)),
-        Subject::Rounds if verb == "run" => run_rounds(
-            alloc,
-            link,
-            side,
-            parse_number(rest) as u64,
-        ),
-        Subject::Rounds => run_pipelined(alloc, link, side),
-        Subject::Worker => do_step(alloc, side, verb, rest),
+    match verb {
+        "comes" | "reads" | "writes" => Ok(String::new(alloc)),
+        "send" => send_command(alloc, link, rest),
+        "text" => ask_value::<String, R, W>(alloc, link, rest),
+        "number" => ask_value::<usize, R, W>(alloc, link, rest),
+        "receive" => format_received(alloc, &link.receive(alloc)),
+        "any" => format_received(alloc, &link.receive_any(alloc)),
+        "passed" => format!(in alloc; "{}", link.passed()),
+        "place" => receive_in_place(alloc, link),
+        "show" => escape_bytes(alloc, link.received(parse_number(rest))),
+        "give" => {
+            link.give_out(parse_number(rest));
+            Ok(String::new(alloc))
+        }
+        "run" => run_rounds(alloc, link, side, parse_number(rest) as u64),
+        "pipeline" => run_pipelined(alloc, link, side),
+        _ => do_step(alloc, side, verb, rest),
     }
 }
 
@@ -385,13 +334,8 @@ fn play_over(alloc: Global, lines: &str, most: usize, out: &mut String) -> Resul
     let mut writer = End::new(alloc, usize::MAX);
     set_up_ends(alloc, lines, &mut reader, &mut writer)?;
     play_between(alloc, reader, &mut writer, lines, out)?;
-    push_sent(alloc, &writer.bytes, out)
-}
-
-/// Appends the commands that were sent.
-fn push_sent(alloc: Global, bytes: &[u8], out: &mut String) -> Result<(), AllocError> {
     out.push_str("sent: ")?;
-    push_line(out, format_commands(alloc, bytes)?.as_str())
+    push_line(out, format_commands(alloc, &writer.bytes)?.as_str())
 }
 
 /// Executes the lines over a connection of this reader and writer.
@@ -433,14 +377,8 @@ pub fn play(
     ensures { IfOk result (λ played. played ≡ is_connection_script name.now) }
 {
     match name {
-        "connection" => {
-            play_sizes(alloc, words, lines, out)?;
-            Ok(true)
-        }
-        "ends" => {
-            play_ends(alloc, words, lines, out)?;
-            Ok(true)
-        }
+        "connection" => played!(play_sizes(alloc, words, lines, out)),
+        "ends" => played!(play_ends(alloc, words, lines, out)),
         _ => Ok(false),
     }
 }

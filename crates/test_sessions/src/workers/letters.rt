@@ -59,10 +59,7 @@ pub fn play(alloc: Global, name: &str, lines: &str, out: &mut String) -> Result<
     ensures { IfOk result (λ played. played ≡ is_letters_script name.now) }
 {
     match name {
-        "letters" => {
-            play_letters(alloc, lines, out)?;
-            Ok(true)
-        }
+        "letters" => played!(play_letters(alloc, lines, out)),
         _ => Ok(false),
     }
 }

@@ -6,20 +6,12 @@ ghost use Rattle.test_sessions.specs.Scripts.{is_streams_script};
 
 use crate::workers::{ScriptHandler, read_reply};
 use crate::{
-    format_commands, make_group_settings, parse_number, parse_protocol, push_exchange, push_line,
+    Peer, format_commands, make_group_settings, parse_number, push_exchange, push_line,
     run_command, run_lines, split_at_mark,
 };
 use redis_wire::{Decoded, Limits, command_words, decode};
-use server_commands::{Server, Session};
 use std::alloc::{AllocError, Global};
 use worker::Worker;
-
-/// A server and one connection to it.
-#[derive(Drop)]
-struct Peer {
-    server: Server,
-    session: Session,
-}
 
 /// Returns a worker for each stream.
 fn make_workers(alloc: Global, keys: &str) -> Result<Vec<Worker>, AllocError> {
@@ -34,7 +26,7 @@ fn make_workers(alloc: Global, keys: &str) -> Result<Vec<Worker>, AllocError> {
 fn run_request(alloc: Global, peer: &mut Peer, request: &[u8]) -> Result<Vec<u8>, AllocError> {
     match decode(alloc, request, Limits::default()) {
         Ok(Decoded::Complete { reply, len: _ }) => match command_words(alloc, reply)? {
-            Some(words) => run_command(alloc, &mut peer.server, 0, &mut peer.session, words),
+            Some(words) => run_command(alloc, peer, words),
             None => Ok(Vec::new(alloc)),
         },
         Ok(Decoded::Incomplete) => Ok(Vec::new(alloc)),
@@ -74,10 +66,7 @@ pub fn play(
     ensures { IfOk result (λ played. played ≡ is_streams_script name.now) }
 {
     match name {
-        "streams" => {
-            play_streams(alloc, words, lines, out)?;
-            Ok(true)
-        }
+        "streams" => played!(play_streams(alloc, words, lines, out)),
         _ => Ok(false),
     }
 }
@@ -91,23 +80,24 @@ fn play_streams(
 ) -> Result<(), AllocError> {
     let (protocol, rest) = split_at_mark(words, ' ');
     let (turns, keys) = split_at_mark(rest, ' ');
-    let mut peer = Peer {
-        server: Server::new(alloc),
-        session: Session::new(alloc, parse_protocol(protocol)),
-    };
-    run_commands(alloc, &mut peer, lines, out)?;
+    let mut peer = Peer::new(alloc, protocol);
+    run_lines(alloc, &mut peer, lines, out)?;
     play_turns(alloc, &mut peer, parse_number(turns), keys, out)?;
     push_pending(alloc, &mut peer, keys, out)
 }
 
-/// Executes commands on the server, and prints the replies.
-fn run_commands(
+/// Prints the pending entries of these streams.
+fn push_pending(
     alloc: Global,
     peer: &mut Peer,
-    lines: &str,
+    keys: &str,
     out: &mut String,
 ) -> Result<(), AllocError> {
-    run_lines(alloc, &mut peer.server, &mut peer.session, lines, out)
+    for key in keys.split(' ') {
+        let line = format!(in alloc; "XPENDING {key} g")?;
+        run_lines(alloc, peer, line.as_str(), out)?;
+    }
+    Ok(())
 }
 
 /// Plays new workers of these streams, each for this number of turns.
@@ -137,20 +127,6 @@ fn play_all_turns(
         for worker in workers.iter_mut() {
             play_turn(alloc, peer, worker, handler, out)?;
         }
-    }
-    Ok(())
-}
-
-/// Prints the pending entries of these streams.
-fn push_pending(
-    alloc: Global,
-    peer: &mut Peer,
-    keys: &str,
-    out: &mut String,
-) -> Result<(), AllocError> {
-    for key in keys.split(' ') {
-        let line = format!(in alloc; "XPENDING {key} g")?;
-        run_commands(alloc, peer, line.as_str(), out)?;
     }
     Ok(())
 }
