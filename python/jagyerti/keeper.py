@@ -42,8 +42,6 @@ class Link:
         with self.lock:
             if time.monotonic() < self.rests_until:
                 raise Failed("the connection failed a moment ago")
-            if self.find_server() is None:
-                raise Failed("no server is known yet")
             was_open = self.connection is not None
             try:
                 reply = self._ask_once(*words)
@@ -55,11 +53,13 @@ class Link:
             return reply
 
     def _ask_once(self, *words: resp.Word) -> resp.Reply:
+        server = self.find_server() if self.connection is None else None
+        if self.connection is None and server is None:
+            raise Failed("no server is known yet")
         try:
-            if self.connection is None:
-                server = self.find_server()
-                assert server is not None
+            if server is not None:
                 self.connection = connect.open(server, self.options)
+            assert self.connection is not None
             return resp.ask_all(self.connection, [words])[0]  # which reads more than a byte at once
         except resp.ReplyError as error:
             if error.code == "MOVED":  # the next question goes to the node that stream_run found then
