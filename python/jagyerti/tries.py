@@ -23,8 +23,10 @@ GOOD_RUN = 60.0  # seconds after which the count of tries begins anew
 TOGETHER = 0.3  # seconds in which two signals are one: timeout(1) sends its to a process, and then to the group of it
 CLOSED = re.compile(r"error: (.*: )?the server closed the connection\.?", re.I)
 UNSAFE = 5  # the status if another start could acknowledge entries that are not on the disk
-NOT_AGAIN = re.compile(r"error: cannot write (the file: .*\(os error 5\)|the line of the entry .*: "
-                       r"(a line of its id is there with other fields|the file was changed))", re.I)
+NOT_AGAIN = re.compile(r"error: cannot (write the file: .*\(os error 5\)"
+                       r"|(write the file|open .*|keep the base in .*): it could not be synced: "
+                       r"|write the line of the entry .*: (a line of its id is there with other fields|the file was changed))", re.I)
+CAUSE = "    "  # a line of the cause begins with it
 COUNTS = re.compile(r"([0-9]+) (entry|entries|records?) in ")
 
 
@@ -77,7 +79,7 @@ class Tries:
         self.counts, self.is_fewer = Counts(plan.words, plan.count), False
         self.run: Optional[Run] = None
         self.signals, self.signalled, self.is_idle = 0, -TOGETHER, False
-        self.error, self.entries, self.held_counts, self.held_error = "", 0, "", ""
+        self.error, self.cause, self.entries, self.held_counts, self.held_error = "", "", 0, "", ""
         self.metrics = MetricsFile(plan.metrics, plan.metrics_prefix, plan.say) if plan.metrics else None
 
     def run_to_the_end(self) -> int:
@@ -154,7 +156,7 @@ class Tries:
             connection = connect.open(find_server(), self.plan.options)
         signal.pthread_sigmask(signal.SIG_BLOCK, HELD)
         self.figures.begin()
-        self.error, self.entries, self.held_counts, self.held_error = "", 0, "", ""
+        self.error, self.cause, self.entries, self.held_counts, self.held_error = "", "", 0, "", ""
         run = self.make_run(connection)
         sent_before, begun = run.counts()[2], time.monotonic()
         try:
@@ -197,7 +199,9 @@ class Tries:
     def hear(self, line: str) -> bool:
         """Takes a line that the program printed. Returns whether it is to be shown now."""
         if line.lower().startswith("error: "):
-            self.error = line
+            self.error, self.cause = line, ""
+        elif self.error and not self.cause and line.startswith(CAUSE):
+            self.cause = f": {line.strip()}"
         if CLOSED.fullmatch(line):
             self.held_error = line
             return False
@@ -237,7 +241,7 @@ class Tries:
         if status < 0:
             self.say(f"the program was ended by {signal.Signals(-status).name}")
             return 128 - status, True
-        if status == FAILED and NOT_AGAIN.match(self.error):
+        if status == FAILED and NOT_AGAIN.match(self.error + self.cause):
             self.say("it is not started again: look at the file and the stream first")
             return UNSAFE, False
         silence = self.plan.silence

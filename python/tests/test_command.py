@@ -119,9 +119,13 @@ class Command(Running):
     def test_no_retry_if_it_could_acknowledge_what_is_not_there(self):
         again = "jagyerti drain: it is not started again: look at the file and the stream first\n"
         for error in ("cannot write the file: Input/output error (os error 5)",
+                      "cannot write the file: it could not be synced: No space left on device (os error 28)",
+                      "cannot write the file: it could not be synced: Disk quota exceeded (os error 122)",
+                      "cannot open f\n\nCaused by:\n    it could not be synced: No space left on device (os error 28)",
+                      "cannot keep the base in f.onto\n\nCaused by:\n    it could not be synced: Input/output error (os error 5)",
                       "cannot write the line of the entry 5-1: a line of its id is there with other fields",
                       "cannot write the line of the entry 5-1: the file was changed"):
-            running = self.started(f'print("Error: {error}", file=sys.stderr); sys.exit(1)', "--retry", "forever")
+            running = self.started(f'print({"Error: " + error!r}, file=sys.stderr); sys.exit(1)', "--retry", "forever")
             self.connection.sendall(b"x")
             self.connection.close()
             self.ends(running, 5, f"Error: {error}\n{again}")

@@ -478,7 +478,7 @@ fn commit<D: LogFile + Drop>(log: &mut LineLog<D>, batch: &[RawBytes]) -> Result
     match log.commit() {
         Ok(()) => Ok("taken "),
         Err(LogError::Memory) => Err(AllocError.into()),
-        Err(LogError::File(_)) => Ok("failed "),
+        Err(LogError::File(_) | LogError::NotSynced(_)) => Ok("failed "),
     }
 }
 
@@ -612,9 +612,9 @@ fn commit_to_torn_file(alloc: Global, case: Value) -> Result<String> {
     file.crash(0, &behind.0)?;
     file.fail_sync(1);
     match repair(alloc, &mut file) {
-        Err(LogError::File(_)) => file.crash(uncut, b"")?,
+        Err(LogError::NotSynced(_)) => file.crash(uncut, b"")?,
         Err(LogError::Memory) => return Err(AllocError.into()),
-        Ok(()) => bail!("a sync that did not fail"),
+        Ok(()) | Err(LogError::File(_)) => bail!("a sync that did not fail"),
     }
     let file = LineLog::open(alloc, file)?.into_file();
     Ok(format!(in alloc; "{said}{:?}", str::from_utf8(file.on_disk())?)?)

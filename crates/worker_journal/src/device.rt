@@ -1,7 +1,8 @@
 //! A file for a log: the bytes that a read returns, and the bytes that a crash may leave.
-ghost use Rattle.std.specs.Prelude.{◌≡◌, ◌≤◌, List, ℕ, Option, Some, length, take, drop, IfOk, OnOk, IfSome, IsSome, IsNone};
+ghost use Rattle.std.specs.Prelude.{◌≡◌, ◌≤◌, List, ℕ, Option, Some, length, take, drop, IfErr, IfOk, OnOk, IfSome, IsSome, IsNone};
 ghost use Rattle.std.specs.Io.KnownBytes.{Appends};
 ghost use Rattle.worker_journal.specs.Device.{Only, Follows, IsTorn, IsCut, Elapses};
+ghost use Rattle.worker_journal.specs.Log.{IsOfSync};
 ghost use Rattle.worker_journal.specs.Lines.{EachStartsWith};
 
 use crate::error::LogError;
@@ -62,11 +63,13 @@ pub trait LogFile {
         ensures time { Elapses (moment self.old) (moment self.new)
             (left_since self.old) (left_since self.new) (may_leave self.new) };
 
-    /// Syncs the file. After that a crash leaves the bytes that a read returns, if the file is sound.
+    /// Syncs the file. After that a crash leaves the bytes that a read returns, if the file is sound. If the
+    /// system returns an error, the error is `NotSynced`.
     fn sync(&mut self) -> Result<(), LogError>
         ensures durable { OnOk result (is_sound self.old → IfSome (seen self.old)
             (λ bytes. Only bytes (may_leave self.new))) }
         ensures sound { OnOk result (is_sound self.old → is_sound self.new) }
+        ensures cause { IfErr result IsOfSync }
         ensures seen { seen self.new ≡ seen self.old }
         ensures crash { (c : List ℕ) → may_leave self.new c → may_leave self.old c }
         ensures time { Elapses (moment self.old) (moment self.new)

@@ -15,6 +15,10 @@ pub enum LogError {
     /// The system returned an error.
     #[error("{0}")]
     File(io::Error),
+    /// The system could not sync the file. Bytes that were written may be lost, though a read returns them. A
+    /// later sync does not report this.
+    #[error("it could not be synced: {0}")]
+    NotSynced(io::Error),
 }
 
 impl From<AllocError> for LogError {

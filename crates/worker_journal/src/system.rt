@@ -1,6 +1,7 @@
 //! A file of the system.
-ghost use Rattle.std.specs.Prelude.{ℕ, List, None, IfErr};
+ghost use Rattle.std.specs.Prelude.{◌≡◌, ℕ, List, None, Err, IfErr, IsOk, MatchResult};
 ghost use Rattle.worker_journal.specs.Log.{IsOfTheSystem};
+ghost use Rattle.worker_journal.specs.declared.error.LogError.TheVariants.{NotSynced};
 
 use crate::device::LogFile;
 use crate::error::LogError;
@@ -48,13 +49,27 @@ impl SystemFile {
     }
 }
 
-/// Syncs the folder of a new file, so that its name is on the disk.
-fn sync_folder<R: Files<File = File>>(rt: &R, path: &str) -> io::Result<()> {
+/// Syncs the folder of a new file, so that its name is on the disk. If that fails, the file itself may be lost.
+/// A later sync does not report this, so the error is `NotSynced`.
+fn sync_folder<R: Files<File = File>>(rt: &R, path: &str) -> Result<(), LogError>
+    ensures { IfErr result IsOfTheSystem }
+{
     let folder = match Path::new(path).parent() {
         Some(folder) if !folder.as_str().is_empty() => folder,
         _ => Path::new("."),
     };
-    File::open(rt, folder)?.sync_all()
+    let folder = File::open(rt, folder)?;
+    end_sync(folder.sync_all())
+}
+
+/// Returns the result of a sync of the system. Its error is `NotSynced`.
+fn end_sync(synced: io::Result<()>) -> Result<(), LogError>
+    ensures { MatchResult synced (λ _. IsOk result) (λ reason. result ≡ Err (NotSynced reason)) }
+{
+    match synced {
+        Ok(()) => Ok(()),
+        Err(error) => Err(LogError::NotSynced(error)),
+    }
 }
 
 impl LogFile for SystemFile {
@@ -97,6 +112,6 @@ impl LogFile for SystemFile {
     }
 
     fn sync(&mut self) -> Result<(), LogError> {
-        Ok(self.file.sync_data()?)
+        end_sync(self.file.sync_data())
     }
 }

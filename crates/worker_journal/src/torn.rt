@@ -264,7 +264,7 @@ impl LogFile for TornFile {
         self.failing = self.failing.saturating_sub(1);
         if fails {
             self.is_sound = false;
-            return Err(LogError::File(io::Error::from(ErrorKind::Other)));
+            return Err(LogError::NotSynced(io::Error::from(ErrorKind::Other)));
         }
         if !self.is_sound {
             return Ok(());

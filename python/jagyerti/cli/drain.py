@@ -36,8 +36,9 @@ others go on. A table of all partitions is shown each second in which it changed
 --dead N STREAM gives up to STREAM:{k}.
 
 exit status: 0 after --until-empty or one signal; 1 if the program failed, or the server is not there or takes no login;
-2 if words are wrong; 3 if the server said nothing for too long; 5 if the file had an input or output error, or a line of the
-same id with other fields, after which nothing is started again; 128 + N if the signal N ended the program.
+2 if words are wrong; 3 if the server said nothing for too long; 5 if the file could not be synced, had an input or output
+error, or has a line of the same id with other fields, after which nothing is started again; 128 + N if the signal N ended
+the program.
 
 example: jagyerti drain redis://127.0.0.1:6379 orders packers ann orders.txt --from 0 --retry forever
 """
