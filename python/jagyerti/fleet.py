@@ -203,7 +203,7 @@ class Fleet:
             self._refuse_more()
             self.team.start()
         except Stopped:
-            return 0
+            return self.plan.stopped
         due = time.monotonic() + 1
         while self.team.children:
             self.team.take_rows(0.2)

@@ -22,6 +22,7 @@ from .url import Address
 GOOD_RUN = 60.0  # seconds after which the count of tries begins anew
 TOGETHER = 0.3  # seconds in which two signals are one: timeout(1) sends its to a process, and then to the group of it
 CLOSED = re.compile(r"error: (.*: )?the server closed the connection\.?", re.I)
+STOPPED = 143  # the status if a signal came before the end of what has one
 UNSAFE = 5  # the status if another start could acknowledge entries that are not on the disk
 NOT_AGAIN = re.compile(r"error: cannot (write the file: .*\(os error 5\)"
                        r"|(write the file|open .*|keep the base in .*): it could not be synced: "
@@ -38,7 +39,8 @@ class Stopped(Exception):
 class Plan:
     """What is run, and how. `say` prints what this process itself has to say. A foreign program is not of this package.
 
-    `count` is what the program takes for --count if it is not given, and None if it has no such option.
+    `count` is what the program takes for --count if it is not given, and None if it has no such option. A plan that
+    `has_end` is done only if the program ends by itself.
     """
 
     program: str
@@ -55,6 +57,12 @@ class Plan:
     metrics: Optional[str] = None
     metrics_prefix: str = "stream_drain"
     count: Optional[int] = None
+    has_end: bool = False
+
+    @property
+    def stopped(self) -> int:
+        """The status after a signal, if nothing went wrong."""
+        return STOPPED if self.has_end else 0
 
     @property
     def silence(self) -> float:
@@ -83,13 +91,13 @@ class Tries:
         self.metrics = MetricsFile(plan.metrics, plan.metrics_prefix, plan.say) if plan.metrics else None
 
     def run_to_the_end(self) -> int:
-        """Runs it as often as it may help. Returns the exit status: after one signal 0, if nothing else went wrong."""
+        """Runs it as often as it may help. Returns the exit status: after one signal `stopped`, if nothing went wrong."""
         for held in HELD:
             signal.signal(held, self.take_signal)
         try:
             return self.try_all()
         except Stopped:
-            return 0
+            return self.plan.stopped
 
     def take_signal(self, _number: int, _frame: Optional[FrameType]) -> None:
         """Handles SIGTERM and SIGINT: the first ends the run that is there cleanly, the second at once."""
@@ -236,7 +244,7 @@ class Tries:
         """Returns what run_once does, and shows the lines that were held back."""
         _show(self.held_counts)
         if self.signals == 1 and status == FAILED and CLOSED.fullmatch(self.error):
-            return 0, False
+            return self.plan.stopped, False
         _show(self.held_error)
         if status < 0:
             self.say(f"the program was ended by {signal.Signals(-status).name}")

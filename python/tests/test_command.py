@@ -58,9 +58,9 @@ class Running(unittest.TestCase):
 
 
 class Command(Running):
-    def started(self, then, *words):
-        """Starts a drain by this program. It is ready when this returns."""
-        running = self.start("drain", "--program", self.fake(then), self.url, "k", "g", "c", "f", *words)
+    def started(self, then, *words, command=("drain", "k", "g", "c", "f")):
+        """Starts a command, a drain if nothing is said, by this program. It is ready when this returns."""
+        running = self.start(command[0], "--program", self.fake(then), self.url, *command[1:], *words)
         self.connection, _ = self.listener.accept()
         self.addCleanup(self.connection.close)
         self.assertEqual(running.stderr.readline(), b"ready\n")
@@ -74,6 +74,14 @@ class Command(Running):
             running = self.started(CLOSED, "--retry", "forever")
             running.send_signal(number)
             self.ends(running, 0, "3 entries in 1 batch\n")
+
+    def test_a_signal_before_all_lines_are_in_is_no_success(self):
+        running = self.started(CLOSED, "--retry", "forever", command=("fill", "k", "f"))
+        running.terminate()
+        self.ends(running, 143, "3 entries in 1 batch\n")
+        ended = self.started("sys.exit(0)", command=("fill", "k", "f"))
+        ended.terminate()
+        self.ends(ended, 0, "")
 
     def test_closed_by_the_server(self):
         running = self.started(CLOSED)
@@ -102,13 +110,14 @@ class Command(Running):
 
     def test_signal_in_a_pause(self):
         self.listener.close()
-        running = self.start("drain", "--program", self.fake(CLOSED), self.url, "k", "g", "c", "f", "--retry", "9", "--pause", "60")
-        first = running.stderr.readline().decode()
-        self.assertIn("no connection with 127.0.0.1:", first)
-        self.assertIn("tries again in ", running.stderr.readline().decode())
-        running.terminate()
-        running.communicate(timeout=60)
-        self.assertEqual(running.returncode, 0)
+        for status, (name, *words) in ((0, ("drain", "k", "g", "c", "f")), (143, ("fill", "k", "f"))):
+            running = self.start(name, "--program", self.fake(CLOSED), self.url, *words, "--retry", "9", "--pause", "60")
+            first = running.stderr.readline().decode()
+            self.assertIn("no connection with 127.0.0.1:", first)
+            self.assertIn("tries again in ", running.stderr.readline().decode())
+            running.terminate()
+            running.communicate(timeout=60)
+            self.assertEqual(running.returncode, status)
 
     def test_retry_counts_its_tries(self):
         self.listener.close()

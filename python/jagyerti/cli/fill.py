@@ -18,14 +18,15 @@ TEXT = """\
 All other options are those of stream_fill, which 'jagyerti fill -- --help' shows. With --retry it goes on after what is in
 the stream. Two at once on one stream add nothing twice, if they have the same file, field and base.
 
-SIGTERM and SIGINT end it cleanly, with the status 0. Call it again with the same words, and it goes on.
+SIGTERM and SIGINT end it cleanly. Not all lines are in then, so the status is 143. Call it again with the same words, and it
+goes on.
 
 With --cluster it first splits FILE into a part for each partition, FILE.0 and so on. Then it brings the part k into
 KEY:{k}, with a program for each at once. The partition of a line is the CRC-16 of its key modulo N, so the lines of one
 key keep their order. FILE.partitions says how far FILE is split: call it again with the same words after whatever failed,
 and after lines were added at the end of FILE. Another N or --by is refused, and so is an N with a stream KEY:{N} there.
 
-exit status: as that of 'jagyerti drain'.
+exit status: 0 if all lines are in, 143 after a signal before that, else as that of 'jagyerti drain'.
 
 example: jagyerti fill redis://127.0.0.1:6379 orders orders.txt --retry 5
 """
@@ -45,7 +46,7 @@ def add_parser(subparsers: Any) -> None:
 def run(arguments: argparse.Namespace) -> int:
     """Runs it. Returns the exit status."""
     program = find_program("stream_fill", arguments.program)
-    plan = make_plan(arguments, program, program_words(arguments, program))
+    plan = dataclasses.replace(make_plan(arguments, program, program_words(arguments, program)), has_end=True)
     if not arguments.cluster:
         refuse_partitions(arguments)
         return Tries(plan).run_to_the_end()
