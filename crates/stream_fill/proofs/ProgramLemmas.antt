@@ -60,14 +60,14 @@ chosen false e s x is = let h : Ok x ≡ Ok s = is in cc
 asks_of : (old new : Link) (key wanted : Text) → key ≡ wanted → AsksLast key old new → (new ≡ old) ⊎ AsksLast wanted old new
 asks_of old new key wanted of asks = inr (subst (λ (k : Text). AsksLast k old new) of asks)
 
-module _ {D : Type 0} (seen : D → Option (List ℕ)) (may_leave : D → List ℕ → Type 0) (file file' : D) (old new : Link)
-    (s : Settings) (key : Text) (of : key ≡ string_bytes s.key) where
-  in_file : (base : ℕ) → FindsBase seen may_leave key file file' old new base
+module _ {D : Type 0} (seen : D → Option (List ℕ)) (may_leave : D → List ℕ → Type 0) (is_sound : D → Type 0)
+    (file file' : D) (old new : Link) (s : Settings) (key : Text) (of : key ≡ string_bytes s.key) where
+  in_file : (base : ℕ) → FindsBase seen may_leave is_sound key file file' old new base
       → IsKeptIn key (seen file) old new base ⊎ IsLastOf key (seen file) old new base
   in_file base (inl kept) = inl (record { line = kept.line; unasked = kept.unasked })
   in_file base (inr asked) = inr (record { none = asked.none; second = asked.second; last = asked.last })
 
-  pub found_so : (base : ℕ) (x : Settings) → FindsBase seen may_leave key file file' old new base → Ok x ≡ based s base
+  pub found_so : (base : ℕ) (x : Settings) → FindsBase seen may_leave is_sound key file file' old new base → Ok x ≡ based s base
       → HasFoundBase (seen file) s old new x
   found_so base x finds is = record {
     base = base;
@@ -76,7 +76,7 @@ module _ {D : Type 0} (seen : D → Option (List ℕ)) (may_leave : D → List �
         (in_file base finds);
   }
 
-  pub asked_then : (base : ℕ) → FindsBase seen may_leave key file file' old new base
+  pub asked_then : (base : ℕ) → FindsBase seen may_leave is_sound key file file' old new base
       → (new ≡ old) ⊎ AsksLast (string_bytes s.key) old new
   asked_then base (inl kept) = inl kept.unasked
   asked_then base (inr asked) = asks_of old new key (string_bytes s.key) of (inl ((base, asked.second), asked.last))

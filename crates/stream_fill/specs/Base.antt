@@ -48,11 +48,13 @@ IsOfFile causes.OtherFile = ⊥
 IsOfFile (causes.File e) = Unit {0}
 IsOfFile (causes.Ask e) = ⊥
 
-module _ {D : Type 0} (seen : D → Option (List ℕ)) (may_leave : D → List ℕ → Type 0) (key : List ℕ) where
-  -- the file has this base. No command was sent, and the file is unchanged.
+module _ {D : Type 0} (seen : D → Option (List ℕ)) (may_leave : D → List ℕ → Type 0) (is_sound : D → Type 0)
+    (key : List ℕ) where
+  -- The file has this base, also after a crash if the file is sound. No command was sent, and its bytes are unchanged.
   pub record IsKept (file file' : D) (old new : Link) (base : ℕ) : Type 0 where
     pub line : IfSome (seen file) (λ bytes. Keeps key bytes (Some base))
-    pub same : file' ≡ file
+    pub same : seen file' ≡ seen file
+    pub durable : is_sound file → IfSome (seen file) (λ bytes. Only bytes (may_leave file'))
     pub unasked : new ≡ old
 
   -- The file had no base. The base is the first number of the stream's last id, and the file now has it, also
@@ -69,16 +71,12 @@ module _ {D : Type 0} (seen : D → Option (List ℕ)) (may_leave : D → List �
   FindsBase file file' old new base = IsKept file file' old new base ⊎ IsAsked file file' old new base
 
 module _ {D : Type 0} (seen : D → Option (List ℕ)) (key : List ℕ) where
-  -- no command was sent, and the file is unchanged
-  abbrev pub IsUntouched : D → D → Link → Link → Type 0
-  IsUntouched file file' old new = (file' ≡ file) × (new ≡ old)
-
-  -- Why there is no base. `OtherFile`: the file has other content. `File`: the file could not be read or
-  -- written, before or after the command. `Ask`: the last id could not be read from the server, and the file is
-  -- unchanged.
+  -- Why there is no base. `OtherFile`: the file has other content, and is unchanged. `File`: the file could not be
+  -- read or synced, and no command was sent; or it could not be written after the command. `Ask`: the last id could
+  -- not be read from the server, and the file is unchanged.
   abbrev pub HasNoBase : D → D → Link → Link → BaseError → Type 0
-  HasNoBase file file' old new causes.OtherFile = IfSome (seen file) (IsOther key) × IsUntouched file file' old new
+  HasNoBase file file' old new causes.OtherFile = IfSome (seen file) (IsOther key) × (file' ≡ file) × (new ≡ old)
   HasNoBase file file' old new (causes.File e) =
-      IsUntouched file file' old new ⊎ ((last : ℕ × ℕ) × LastIs key old new last)
+      ((seen file' ≡ seen file) × (new ≡ old)) ⊎ ((last : ℕ × ℕ) × LastIs key old new last)
   HasNoBase file file' old new (causes.Ask e) =
       IfSome (seen file) (λ bytes. Keeps key bytes None) × (file' ≡ file) × IsUntold key old new e

@@ -65,17 +65,21 @@ impl From<RunError> for BaseError {
 }
 
 /// Returns the base in the file for the stream `key`. If the file has no base, the base is the first number of
-/// the stream's last id. Then the base is written to the file.
+/// the stream's last id. Then the base is written to the file. In both cases the file is synced before the base is
+/// returned.
 pub fn find_base<D: LogFile, R: Read + Drop, W: Write + Drop>(
     alloc: Global,
     file: &mut D,
     connection: &mut Connection<R, W>,
     key: &str,
 ) -> Result<u64, BaseError>
-    ensures ok { IfOk result (FindsBase D.seen D.may_leave key.now file.old file.new connection.old connection.new) }
+    ensures ok { IfOk result (FindsBase D.seen D.may_leave D.is_sound key.now file.old file.new
+        connection.old connection.new) }
     ensures err { IfErr result (HasNoBase D.seen key.now file.old file.new connection.old connection.new) }
 {
     if let Some(base) = read_base(alloc, &*file, key)? {
+        // (a run that was killed may have written it, and not synced it)
+        file.sync()?;
         return Ok(base);
     }
     let (base, _second) = ask_last_id(alloc, connection, key)?;
