@@ -24,6 +24,7 @@ while os.read(0, 100):
 CLOSED = 'print("3 entries in 1 batch\\nError: the server closed the connection", file=sys.stderr); sys.exit(1)'
 RESET = 'print("Error: cannot write to the server: Connection reset by peer (os error 104)", file=sys.stderr); sys.exit(1)'
 FULL = 'print("Error: cannot write the file: no space left on device", file=sys.stderr); sys.exit(1)'
+REFUSED = 'print("error: 0 is not in 1..=10000", file=sys.stderr); sys.exit(2)'
 SLOW = "time.sleep(0.5); " + CLOSED
 STAYS = 'print("stays", file=sys.stderr, flush=True); time.sleep(60)'
 
@@ -140,13 +141,13 @@ class Command(Running):
             self.ends(running, 5, f"Error: {error}\n{again}")
 
     def test_retry_if_the_connection_broke_before_anything_was_sent(self):
-        for then, tries in ((RESET, 2), (FULL, 0)):
+        for then, tries, status in ((RESET, 2, 1), (FULL, 0, 1), (REFUSED, 0, 2)):
             running = self.start("drain", "--program", self.fake(then), self.url, "k", "g", "c", "f", "--retry", "2",
                                  "--pause", "0.01")
             for _ in range(1 + tries):
                 self.listener.accept()[0].close()
             said = running.communicate(timeout=60)[1].decode()
-            self.assertEqual((said.count("tries again"), running.returncode), (tries, 1), said)
+            self.assertEqual((said.count("tries again"), running.returncode), (tries, status), said)
 
     def test_words_of_the_program_pass_through(self):
         fake = self.fake('print(sys.argv[1:], file=sys.stderr)')
