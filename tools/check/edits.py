@@ -79,7 +79,7 @@ def edited(crate, edit, texts=None):
     return function, texts, sites
 
 
-def check_words(crate, *flags, with_tests=False):
+def check_words(crate):
     """Returns the words by which the crate is checked over the built libraries below it, as 'rt check' does."""
     crate = crate_of(crate)
     with BUILDING:
@@ -87,8 +87,7 @@ def check_words(crate, *flags, with_tests=False):
             if not os.path.isdir(below.rlib) and subprocess.run(
                     ["rt", "lib"], cwd=below.folder, stdout=subprocess.DEVNULL).returncode:
                 raise Unfit(f"the library {below.name} is not proved")
-    tests = ["--test"] * (with_tests and crate.has_tests())
-    return [f"{KIT}/bin/rattle", "check", *crate.words(["--jobs", "1", *tests], keeps=False), *flags]
+    return [f"{KIT}/bin/rattle", "check", *crate.words(["--jobs", "1"], keeps=False)]
 
 
 def checked(crate, texts, functions, kept):
