@@ -27,8 +27,6 @@ TOOLS, JAGYERTI = f"{ROOT}/tools", f"{ROOT}/bin/jagyerti"
 # What a tool says at --help that ends as all do.
 STATUS = ("\n\nExit status: 0 if all is as it has to be, 1 if not; 2 for other words, or if something that it wants is "
           "not there.")
-# A page that tools/check/list-promises makes, and pages of rows that it and tools/check/check-docs hold to the sources.
-MADE = {"docs/COMMANDS.md", "docs/internals/PROVED.md", "docs/internals/VECTORS.md"}
 SIMPLE, SIZED = (b"+", b"-", b"_", b":", b",", b"#", b"("), (b"$", b"=", b"!", b"*", b"~", b">", b"%", b"|")
 
 

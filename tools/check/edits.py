@@ -158,12 +158,8 @@ class Calls:
         return not reach(some) & others and not reach(others) & some
 
 
-def lost_in(said):
-    """Returns the functions that a check says it did not prove. One that only calls such a one is not judged itself."""
-    lost = (re.match(r"fn (\S+): (?:not proved|no proof(?!: it calls ))", line) for line in said)
-    return {it[1] for it in lost if it}
-
-
+# A function that a check did not prove. One that only calls such a one is not judged itself.
+LOST = re.compile(r"fn (\S+): (?:not proved|no proof(?!: it calls ))")
 TOLD = re.compile(r"(?:note: )?(?:\./)?(\S+?):(\d+):\d+: ")
 
 
@@ -313,7 +309,7 @@ class Shelf:
         said, status = self.try_in(texts, exact)
         if status != 1 or any(re.search(r"\berror\[[\w-]+\]", line) for line in said):
             return [None] * len(group), said
-        lost, lines = lost_in(said), []
+        lost, lines = {it[1] for it in map(LOST.match, said) if it}, []
         for body in group:
             where = [it for it in sorted(body.exact) if f"{self.crate}::{it}" in lost]
             why = first_of(told_of(body.names, texts, reasons(said)) or reasons(said))
