@@ -216,9 +216,10 @@ def open_metrics(metrics: Dict[str, Tuple[str, str]], samples: Iterable[str]) ->
 
 FROM = {"--from <ID>": "Makes a group that is missing: with all entries (0), or with those from then on ($) "
                        "[possible values: 0, $]"}
-READS = {"--block <MS>": "For so many milliseconds the server waits for new entries; 0: without end [default: 5000]",
-         "--idle <MS>": "Entries that others left for so many milliseconds are claimed [default: 60000]",
-         "--every <READS>": "It claims after so many reads of new entries; 0 and 1: after each [default: 10]"}
+READS = {"--block <MS>": "How long the server waits for new entries, in milliseconds; 0: no limit [default: 5000]",
+         "--idle <MS>": "Minimum idle time of claimed entries, in milliseconds [default: 60000]",
+         "--every <READS>": "Number of reads of new entries between two claims; 0 and 1: a claim after each "
+                            "[default: 10]"}
 UNTIL_EMPTY = {"--until-empty": "It ends with status 0 once a read finds nothing new"}
 WORKER = {"<KEY>": "The stream", "<GROUP>": "The group of consumers", "<CONSUMER>": "The name of the consumer"}
 

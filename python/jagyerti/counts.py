@@ -8,7 +8,7 @@ from typing import List, Optional, Sequence, Tuple
 DEFAULTS = {"stream_drain": 1000, "stream_sqlite": 1000, "stream_run": 10}
 OPTION = "--count"
 NUMBER = re.compile(r"\+?[0-9]{1,9}")
-PAST_A_LIMIT = re.compile("error: (an answer is larger than .+|an answer has more than .+ values|out of memory for an answer)"
+PAST_A_LIMIT = re.compile("error: (a reply is larger than .+|a reply has more than .+ values|out of memory for a reply)"
                           ": take a smaller --count", re.I)
 
 

@@ -20,7 +20,7 @@ Usage: stream_drain [OPTIONS] <KEY>
 
 Options:
       --from <ID>              Makes a group that is missing [possible values: 0, $]
-      --dead <TIMES> <STREAM>  Entries that were delivered so many times
+      --dead <TIMES> <STREAM>  Entries go to this stream after TIMES deliveries
       --quiet                  Nothing is shown
   -h, --help                   Print help
 

@@ -19,9 +19,9 @@ with open({noted!r} + "." + words[2], "a+") as file:
 ends = {ends!r}
 end = ends[min(at, len(ends) - 1)]
 said, status = {{
-    "large": ("0 entries in 0 batches\\nError: an answer is larger than 1 GiB: take a smaller --count", 1),
-    "many": ("2 entries in 1 batch\\nError: an answer has more than 16,777,216 values: take a smaller --count", 1),
-    "memory": ("done 0, batches 0, left pending 0\\nError: out of memory for an answer: take a smaller --count", 1),
+    "large": ("0 entries in 0 batches\\nError: a reply is larger than 1 GiB: take a smaller --count", 1),
+    "many": ("2 entries in 1 batch\\nError: a reply has more than 16,777,216 values: take a smaller --count", 1),
+    "memory": ("done 0, batches 0, left pending 0\\nError: out of memory for a reply: take a smaller --count", 1),
     "idle": ("0 entries in 0 batches\\nError: the server closed the connection", 1),
     "works": ("3 entries in 1 batch\\nError: the server closed the connection", 1),
     "well": ("3 entries in 1 batch", 0),
@@ -30,7 +30,7 @@ os.write(1, b"x")
 print(said, file=sys.stderr)
 sys.exit(status)
 """
-LARGE = "Error: an answer is larger than 1 GiB: take a smaller --count\n"
+LARGE = "Error: a reply is larger than 1 GiB: take a smaller --count\n"
 SINCE = ", since a batch was past a limit"
 HANDLER = ["cat"]
 

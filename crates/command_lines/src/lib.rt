@@ -291,7 +291,7 @@ impl Number {
 pub const BLOCK: Number = Number {
     name: "block",
     value: "MS",
-    help: "For so many milliseconds the server waits for new entries; 0: without end",
+    help: "How long the server waits for new entries, in milliseconds; 0: no limit",
     least: 0,
     most: u64::MAX,
     usual: "5000",
@@ -301,7 +301,7 @@ pub const BLOCK: Number = Number {
 pub const IDLE: Number = Number {
     name: "idle",
     value: "MS",
-    help: "Entries that others left for so many milliseconds are claimed",
+    help: "Minimum idle time of claimed entries, in milliseconds",
     least: 0,
     most: u64::MAX,
     usual: "60000",
@@ -311,7 +311,7 @@ pub const IDLE: Number = Number {
 pub const EVERY: Number = Number {
     name: "every",
     value: "READS",
-    help: "It claims after so many reads of new entries; 0 and 1: after each",
+    help: "Number of reads of new entries between two claims; 0 and 1: a claim after each",
     least: 0,
     most: u64::MAX,
     usual: "10",

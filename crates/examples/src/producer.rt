@@ -26,7 +26,7 @@ pub struct Producer {
 #[derive(Debug, Drop, Error)]
 pub enum ProducerError {
     /// The reply is not an id.
-    #[error("the answer of XADD is {0}")]
+    #[error("the reply to XADD is {0}")]
     Answer(ParsingError),
     /// The number of the entry is the largest one.
     #[error("no number is left for a further entry")]

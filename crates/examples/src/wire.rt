@@ -23,7 +23,7 @@ pub enum AnswerError {
     #[error("an error of the server")]
     Server(ServerError),
     /// The reply is a push message, or its only errors are inside attributes.
-    #[error("no answer of a command")]
+    #[error("the reply is not of this command")]
     NotAnAnswer,
     /// The reply is not a reply to XREADGROUP.
     #[error("{0}")]

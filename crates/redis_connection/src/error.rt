@@ -98,7 +98,7 @@ pub enum AskError {
     #[error("{0}")]
     Parsing(ParsingError),
     /// A push message was received, which is no reply to a command.
-    #[error("no answer of a command")]
+    #[error("the reply is not of this command")]
     NotAnAnswer,
 }
 

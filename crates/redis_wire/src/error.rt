@@ -34,7 +34,7 @@ pub enum RedisError {
     #[error("{0}")]
     Parsing(ParsingError),
     /// The reply is a pushed message, or its only errors are inside attributes.
-    #[error("no answer of a command")]
+    #[error("the reply is not of this command")]
     NotAnAnswer,
 }
 

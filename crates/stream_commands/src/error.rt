@@ -3,5 +3,5 @@ use thiserror::Error;
 
 /// The options of a claim have `JUSTID`, so its reply would have only ids and no entries.
 #[derive(Clone, Copy, Debug, PartialEq, Eq, Error)]
-#[error("JUSTID is set: the answer would be ids alone, and no entries")]
+#[error("JUSTID is set: the reply would have only ids")]
 pub struct JustIdIsSet;

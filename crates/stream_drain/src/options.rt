@@ -40,7 +40,7 @@ pub struct Options {
 pub const COUNT: Number = Number {
     name: "count",
     value: "ENTRIES",
-    help: "At most so many entries at once, from 1 to 10000; a batch is one write and one sync",
+    help: "Maximum number of entries at once, from 1 to 10000; a batch is one write and one sync",
     least: 1,
     most: LARGEST_COUNT as u64,
     usual: "1000",
@@ -50,7 +50,7 @@ const LOOK_UP: &str =
     "Reads the whole file first, and writes no entry of it again, whatever the server hands out";
 
 const WAIT: &str =
-    "So many replicas are to confirm each read within so many milliseconds, each number 1 at least";
+    "Each read must be confirmed by REPLICAS replicas within MS milliseconds, each number 1 at least";
 
 /// Parses the arguments with clap. Returns an error if the arguments do not specify the parsed options.
 pub fn options_of(alloc: Global, words: &[String]) -> Result<Options, Error>
@@ -62,7 +62,11 @@ pub fn options_of(alloc: Global, words: &[String]) -> Result<Options, Error>
     let options = parse_options(alloc, &mut command, &matches)?;
     let line = Line::read::<OptionArity>(alloc, words)?;
     if !says(alloc, &line, &matches, &options)? {
-        return Err(refused(alloc, &mut command, &"the words do not say what was read"));
+        return Err(refused(
+            alloc,
+            &mut command,
+            &"internal error: the parsed options do not match the arguments",
+        ));
     }
     Ok(options)
 }
@@ -115,8 +119,7 @@ fn add_numbers<'a>(alloc: Global, command: Command<'a>) -> Result<Command<'a>, A
 }
 
 fn add_flags<'a>(alloc: Global, command: Command<'a>) -> Result<Command<'a>, AllocError> {
-    let help =
-        "Entries that were delivered so many times, 1 at least, go to this stream of dead letters";
+    let help = "Entries go to this stream of dead letters after TIMES deliveries, 1 at least";
     command
         .arg(dead(alloc, help))?
         .arg(flag(alloc, "json", "Each line is an object of JSON"))?

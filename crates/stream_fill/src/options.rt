@@ -36,7 +36,7 @@ pub struct Options {
 pub const BATCH: Number = Number {
     name: "batch",
     value: "RECORDS",
-    help: "At most so many records at once, from 1 to 10000",
+    help: "Maximum number of records at once, from 1 to 10000",
     least: 1,
     most: 10_000,
     usual: "1000",
@@ -68,7 +68,11 @@ pub fn options_of(alloc: Global, words: &[String]) -> Result<Options, Error>
     let options = parse_options(alloc, &mut command, &matches)?;
     let line = Line::read::<OptionArity>(alloc, words)?;
     if !says(alloc, &line, &matches, &options)? {
-        return Err(refused(alloc, &mut command, &"the words do not say what was read"));
+        return Err(refused(
+            alloc,
+            &mut command,
+            &"internal error: the parsed options do not match the arguments",
+        ));
     }
     Ok(options)
 }
@@ -101,7 +105,7 @@ fn make_command<'a>(alloc: Global) -> Result<Command<'a>, AllocError> {
     let onto =
         "The lines are added after what the stream has, and FILE.onto keeps from which id on";
     let help =
-        "So many replicas are to confirm each batch within so many milliseconds, each number 1 at least";
+        "Each batch must be confirmed by REPLICAS replicas within MS milliseconds, each number 1 at least";
     command(alloc, "stream_fill", about)
         .arg(name(alloc, "KEY", "The stream"))?
         .arg(name(alloc, "FILE", "The file"))?

@@ -354,15 +354,15 @@ fn convert_run_error(error: RunError) -> Failure
         RunError::Receive {
             error: ConnectionError::Fault(WireFault::Overfull),
             ..
-        } => { anyhow!("an answer is larger than {LARGEST}: take a smaller --count").into() }
+        } => { anyhow!("a reply is larger than {LARGEST}: take a smaller --count").into() }
         RunError::Receive {
             error: ConnectionError::Fault(WireFault::TooMany),
             ..
-        } => { anyhow!("an answer has more than {MOST} values: take a smaller --count").into() }
+        } => { anyhow!("a reply has more than {MOST} values: take a smaller --count").into() }
         RunError::Receive {
             error: ConnectionError::Memory,
             ..
-        } => { anyhow!("out of memory for an answer: take a smaller --count").into() }
+        } => { anyhow!("out of memory for a reply: take a smaller --count").into() }
         error => Failure::Round(error),
     }
 }

@@ -37,7 +37,7 @@ pub const REPLIES: &str = "/dev/fd/3";
 pub const COUNT: Number = Number {
     name: "count",
     value: "ENTRIES",
-    help: "At most so many entries at once, from 1 to 10000; they are acknowledged together",
+    help: "Maximum number of entries at once, from 1 to 10000; they are acknowledged together",
     least: 1,
     most: 10_000,
     usual: "10",
@@ -53,7 +53,11 @@ pub fn options_of(alloc: Global, words: &[String]) -> Result<Options, Error>
     let options = parse_options(alloc, &mut command, &matches)?;
     let line = Line::read::<OptionArity>(alloc, words)?;
     if !says(alloc, &line, &matches, &options)? {
-        return Err(refused(alloc, &mut command, &"the words do not say what was read"));
+        return Err(refused(
+            alloc,
+            &mut command,
+            &"internal error: the parsed options do not match the arguments",
+        ));
     }
     Ok(options)
 }
@@ -103,8 +107,7 @@ fn add_numbers<'a>(alloc: Global, command: Command<'a>) -> Result<Command<'a>, A
 }
 
 fn add_flags<'a>(alloc: Global, command: Command<'a>) -> Result<Command<'a>, AllocError> {
-    let help =
-        "Entries that were delivered so many times, 1 at least, go to this stream of dead letters";
+    let help = "Entries go to this stream of dead letters after TIMES deliveries, 1 at least";
     command.arg(dead(alloc, help))?.arg(flag(
         alloc,
         "until-empty",

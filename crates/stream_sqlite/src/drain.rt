@@ -229,15 +229,15 @@ fn explain_round_error(error: RunError, fault: &Option<Fault>) -> Error {
         RunError::Receive {
             error: ConnectionError::Fault(WireFault::Overfull),
             ..
-        } => { anyhow!("an answer is larger than {LARGEST}: take a smaller --count") }
+        } => { anyhow!("a reply is larger than {LARGEST}: take a smaller --count") }
         RunError::Receive {
             error: ConnectionError::Fault(WireFault::TooMany),
             ..
-        } => { anyhow!("an answer has more than {MOST} values: take a smaller --count") }
+        } => { anyhow!("a reply has more than {MOST} values: take a smaller --count") }
         RunError::Receive {
             error: ConnectionError::Memory,
             ..
-        } => { anyhow!("out of memory for an answer: take a smaller --count") }
+        } => { anyhow!("out of memory for a reply: take a smaller --count") }
         error => error.into(),
     }
 }

@@ -41,7 +41,7 @@ pub struct Options {
 pub const COUNT: Number = Number {
     name: "count",
     value: "ENTRIES",
-    help: "At most so many entries at once, from 1 to 10000; a batch is one transaction",
+    help: "Maximum number of entries at once, from 1 to 10000; a batch is one transaction",
     least: 1,
     most: 10_000,
     usual: "1000",
@@ -57,7 +57,11 @@ pub fn options_of(alloc: Global, words: &[String]) -> Result<Options, Error>
     let options = parse_options(alloc, &mut command, &matches)?;
     let line = Line::read::<OptionArity>(alloc, words)?;
     if !says(alloc, &line, &matches, &options)? {
-        return Err(refused(alloc, &mut command, &"the words do not say what was read"));
+        return Err(refused(
+            alloc,
+            &mut command,
+            &"internal error: the parsed options do not match the arguments",
+        ));
     }
     Ok(options)
 }
@@ -161,7 +165,7 @@ const NAME: &str = "--table <NAME>";
 const DEAD: &str = "--dead <TIMES> <STREAM>";
 
 const DEAD_HELP: &str =
-    "Entries that are no row are left pending; those delivered so many times, 1 at least, go to this stream";
+    "Entries that are no row are left pending, and go to this stream after TIMES deliveries, 1 at least";
 
 /// Returns the name of the table. A name that begins with `sqlite_` is an error, since the database reserves
 /// such names.

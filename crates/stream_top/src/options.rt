@@ -67,7 +67,11 @@ pub fn task_of(alloc: Global, words: &[Word], texts: &[String]) -> Result<Task, 
     let task = parse_task(alloc, &mut command, words, texts)?;
     let line = Line::read::<OptionArity>(alloc, texts)?;
     if !says(alloc, &line, words, &task)? {
-        return Err(refused(alloc, &mut command, &"the words do not say what was read"));
+        return Err(refused(
+            alloc,
+            &mut command,
+            &"internal error: the parsed options do not match the arguments",
+        ));
     }
     Ok(task)
 }

@@ -333,7 +333,7 @@ fn decode_order_id(alloc: Global, bytes: Value) -> Result<String> {
             reply: Reply::Value(answer),
             ..
         } => Ok(order_id(alloc, answer)?),
-        _ => bail!("no plain answer"),
+        _ => bail!("no plain reply"),
     }
 }
 

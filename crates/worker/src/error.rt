@@ -61,7 +61,7 @@ pub struct AnswerError {
 #[derive(Debug, Drop, Error)]
 pub enum WorkerError {
     /// No command waits for a reply.
-    #[error("an answer to no question")]
+    #[error("a reply without a command")]
     NotAsked,
     /// The server returned an error, such as `LOADING` or `READONLY`, or `NOGROUP` to the first command of a
     /// worker that creates no group. `answered` does not change the worker. After this error `round` and `run`
@@ -75,13 +75,13 @@ pub enum WorkerError {
     GroupIsGone(ServerError),
     /// The reply belongs to no command: it is a push message, or an aggregate with an error in it. `answered`
     /// does not change the worker. After this error `round` and `run` begin again.
-    #[error("no answer of a command")]
+    #[error("the reply is not of this command")]
     NotAnAnswer,
     /// The reply is not of the kind that the command returns.
     #[error("{0}")]
     Parsing(ParsingError),
     /// The reply has entries of another stream.
-    #[error("an answer about another stream")]
+    #[error("a reply about another stream")]
     OtherStream,
     /// The reply to a claim or to a read of new entries has nil in place of an entry's fields: the id of the first such
     /// entry. Servers return nil only for the consumer's own pending entries that were deleted.

@@ -28,13 +28,13 @@ pub enum LetterAsked {
 #[derive(Debug, Drop, Error)]
 pub enum LetterError {
     /// No command waits for a reply.
-    #[error("an answer to no question")]
+    #[error("a reply without a command")]
     NotAsked,
     /// The server returned an error.
     #[error("the server replied {0}")]
     Server(ServerError),
     /// The reply to XADD is not an id, or the reply to XACK is not a number.
-    #[error("no answer of the command")]
+    #[error("the reply is not of this command")]
     NotAnAnswer,
 }
 

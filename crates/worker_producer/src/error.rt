@@ -53,13 +53,13 @@ impl From<WriteError> for RequestError {
 #[derive(Debug, Drop, Error)]
 pub enum FeedError {
     /// No command waits for a reply.
-    #[error("an answer to no question")]
+    #[error("a reply without a command")]
     NotAsked,
     /// The server returned an error, such as `EXECABORT`, `OOM` or `WRONGTYPE`.
     #[error("the server replied {0}")]
     Server(ServerError),
     /// The reply is not of the kind that the command returns.
-    #[error("no answer of a command")]
+    #[error("the reply is not of this command")]
     NotAnAnswer,
     /// The last id is above the base, and is not a record's: another client adds to the stream.
     #[error("another writer adds to the stream")]

@@ -47,7 +47,7 @@ pub enum PostError {
     #[error("the server replied {0}")]
     Refused(ServerError),
     /// The reply does not fit the command.
-    #[error("no answer of a command")]
+    #[error("the reply is not of this command")]
     NotAnAnswer,
     /// The id is not above the last id of the target, and the target has no entry with this id.
     #[error("its id is not above the last one, and no entry has it")]

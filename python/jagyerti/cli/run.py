@@ -77,10 +77,10 @@ def add_parser(subparsers: Any) -> None:
     group.add_argument("--job-timeout", metavar="SECONDS", type=seconds,
                        help="a command that takes longer for a job is killed; the job stays pending")
     group.add_argument("--retry-after", metavar="SECONDS", type=seconds,
-                       help="a job that failed or was replied 'later' comes again after so long, twice as long for each "
+                       help="a job that failed or was replied 'later' comes again after this long, twice as long for each "
                        "delivery, and up to a quarter more by chance; else after --idle, or at once if the command ended")
     group.add_argument("--retry-most", metavar="SECONDS", type=seconds, default=None,
-                       help="--retry-after grows up to so long (3600)")
+                       help="--retry-after grows up to this long (3600)")
     group.add_argument("--deliveries", action="store_true",
                        help='each line ends with "deliveries":N, how often its entry was delivered so far, with this delivery; '
                        "each job costs a request more")

@@ -48,7 +48,7 @@ pub enum SearchError {
     #[error("{0}")]
     Letter(LetterError),
     /// XCLAIM returned another entry.
-    #[error("another entry was answered than the one that was claimed")]
+    #[error("the reply has another entry than the one that was claimed")]
     OtherEntry,
     /// The fields of an entry have a name without a value.
     #[error("an entry has a name of a field, and no value")]

@@ -21,7 +21,7 @@ pub enum OutboxError {
     #[error("the server replied {0}")]
     Refused(ServerError),
     /// The reply is an aggregate with an error in it.
-    #[error("no answer of a command")]
+    #[error("the reply is not of this command")]
     NotAnAnswer,
     /// Out of memory, and nothing was sent.
     #[error("out of memory")]
