@@ -294,7 +294,7 @@ fn list_entries_up(
 ) -> Result<Vec<Answer>, AllocError> {
     let mut answers = Vec::new(alloc);
     let mut left = most;
-    for entry in stream.entries.range(stream.start(start)..) {
+    for entry in stream.entries.range(stream.find_start(start)..) {
         if entry.id > end || left == 0 {
             break;
         }

@@ -16,7 +16,8 @@ use std::alloc::{AllocError, Global};
 use std::collections::VecDeque;
 use std::mem::replace;
 
-/// How many entries one node has at most, as redis-server has it at first. Trimming with `~` removes whole nodes.
+/// How many entries one node has at most, the default of `stream-node-max-entries`. Trimming with `~` removes
+/// whole nodes.
 pub const NODE_ENTRIES: u64 = 100;
 
 /// If at least this many entries are removed at once, their memory is freed later.
@@ -112,8 +113,8 @@ impl Stream {
         Ok(())
     }
 
-    /// The index of the entry with this id, or as an `Err` of the first one after it.
-    pub fn place(&self, id: EntryId) -> Result<usize, usize>
+    /// Returns the index of the entry with this id. `Err` is the index where it would be inserted.
+    pub fn find_index(&self, id: EntryId) -> Result<usize, usize>
         ensures bound { IsSearchInRange result (length self.now.entries.items) }
         ensures found { IfOk result (HoldsAt (λ entry. entry.id ≡ id) self.now.entries.items) }
         ensures missing { IfErr result (λ index. IsAscending (λ entry. entry.id) self.now.entries.items
@@ -123,12 +124,12 @@ impl Stream {
     }
 
     /// The index of the first entry that has at least this id.
-    pub fn start(&self, id: EntryId) -> usize
+    pub fn find_start(&self, id: EntryId) -> usize
         ensures bound { result ≤ length self.now.entries.items }
         ensures split { IsAscending (λ entry. entry.id) self.now.entries.items
             → IsSplitBefore (λ entry. entry.id) id self.now.entries.items result }
     {
-        match self.place(id) {
+        match self.find_index(id) {
             Ok(index) => index,
             Err(index) => index,
         }
@@ -141,7 +142,7 @@ impl Stream {
         ensures none { IfNone result (IsAscending (λ entry. entry.id) self.now.entries.items
             → IsNowhere (λ entry. entry.id) id self.now.entries.items) }
     {
-        match self.place(id) {
+        match self.find_index(id) {
             Ok(index) => self.entries.get(index),
             Err(_) => None,
         }
@@ -163,7 +164,7 @@ impl Stream {
           max_deleted_id = self.new.max_deleted_id;
         } }
     {
-        let Ok(index) = self.place(id) else {
+        let Ok(index) = self.find_index(id) else {
             return false;
         };
         if self.entries.remove(index).is_none() {
@@ -287,7 +288,7 @@ impl Stream {
                 Ok(most) => self.entries.len().saturating_sub(most),
                 Err(_) => 0,
             },
-            Bound::Below(least) => self.start(least),
+            Bound::Below(least) => self.find_start(least),
         }
     }
 }

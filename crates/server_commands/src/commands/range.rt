@@ -71,7 +71,7 @@ fn list_entries_down(
 ) -> Result<Vec<Answer>, AllocError> {
     let mut answers = Vec::new(alloc);
     let mut left = most;
-    let behind = match stream.place(end) {
+    let behind = match stream.find_index(end) {
         Ok(index) => index + 1,
         Err(index) => index,
     };

@@ -625,7 +625,7 @@ fn find_start_behind(stream: &Stream, id: EntryId) -> usize
     ensures behind { AreInOrder stream.now.entries.items
         → drop result stream.now.entries.items ≡ entries_behind id stream.now.entries.items }
 {
-    match stream.place(id) {
+    match stream.find_index(id) {
         Ok(index) => index + 1,
         Err(index) => index,
     }

@@ -1,7 +1,7 @@
 use Rattle.std.proofs.Common.{rules}
 use Rattle.std.proofs.lemmas.List.Sorted.{answers_always}
 use Rattle.server_store.proofs.OrderLemmas.{found, missing}
-use Rattle.server_store.proofs.stream.Stream.place.Goals as goal
+use Rattle.server_store.proofs.stream.Stream.find_index.Goals as goal
 
 -- the closure gives the id of an entry
 pub returns-clause-found : goal.returns-clause-found
