@@ -6,7 +6,7 @@ ghost use Rattle.stream_entries.specs.AutoClaimMeaning.{autoclaim_meaning, text_
 ghost use Rattle.stream_entries.specs.Refusal.{RefusesAutoClaim, RefusesDeleted, RefusesParts};
 
 use crate::claimed::read_claimed;
-use crate::stream_id::{StreamId, copy_ids};
+use crate::stream_id::{StreamId, copy_entries};
 use redis_resp::{FromRedisValue, ParsingError, Source, Value};
 use std::alloc::{AllocError, Global};
 
@@ -45,7 +45,7 @@ impl StreamAutoClaimReply {
     {
         Ok(StreamAutoClaimReply {
             next_stream_id: String::from_str(alloc, &self.next_stream_id)?,
-            claimed: copy_ids(alloc, &self.claimed)?,
+            claimed: copy_entries(alloc, &self.claimed)?,
             deleted_ids: copy_texts(alloc, &self.deleted_ids)?,
             invalid_entries: self.invalid_entries,
         })

@@ -6,7 +6,7 @@ ghost use Rattle.stream_entries.specs.Refusal.{RefusesRows};
 ghost use Rattle.stream_entries.specs.Rows.{rows_reading};
 
 use crate::items::read_rows;
-use crate::stream_id::{StreamId, copy_ids};
+use crate::stream_id::{StreamId, copy_entries};
 use redis_resp::{FromRedisValue, ParsingError, Value};
 use std::alloc::{AllocError, Global};
 
@@ -33,7 +33,7 @@ impl StreamClaimReply {
     pub fn try_clone(&self, alloc: Global) -> Result<StreamClaimReply, AllocError>
         ensures { IfOk result (λ r. entries_of r.ids ≡ entries_of self.now.ids) }
     {
-        let ids = copy_ids(alloc, &self.ids)?;
+        let ids = copy_entries(alloc, &self.ids)?;
         Ok(StreamClaimReply { ids })
     }
 }

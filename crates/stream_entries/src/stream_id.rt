@@ -155,12 +155,12 @@ fn put_copy(
 }
 
 /// Copies the entries, in order. It fails only if it is out of memory.
-pub(crate) fn copy_ids(alloc: Global, ids: &[StreamId]) -> Result<Vec<StreamId>, AllocError>
-    ensures { IfOk result (λ v. entries_of v ≡ map entry_meaning ids.now) }
+pub(crate) fn copy_entries(alloc: Global, entries: &[StreamId]) -> Result<Vec<StreamId>, AllocError>
+    ensures { IfOk result (λ v. entries_of v ≡ map entry_meaning entries.now) }
 {
-    let mut copies = Vec::with_capacity(alloc, ids.len())?;
-    for id in ids {
-        copies.push(id.try_clone(alloc)?)?;
+    let mut copies = Vec::with_capacity(alloc, entries.len())?;
+    for entry in entries {
+        copies.push(entry.try_clone(alloc)?)?;
     }
     Ok(copies)
 }

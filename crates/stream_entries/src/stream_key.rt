@@ -2,7 +2,7 @@
 ghost use Rattle.std.specs.Prelude.{◌≡◌, [], IsOk, IfOk};
 ghost use Rattle.stream_entries.specs.ReadMeaning.{stream_key_meaning};
 
-use crate::stream_id::{StreamId, copy_ids};
+use crate::stream_id::{StreamId, copy_entries};
 use std::alloc::{AllocError, Global};
 
 /// A stream with the entries that XREAD or XREADGROUP read from it.
@@ -31,7 +31,7 @@ impl StreamKey {
         ensures { IfOk result (λ k. stream_key_meaning k ≡ stream_key_meaning self.now) }
     {
         let key = String::from_str(alloc, &self.key)?;
-        let ids = copy_ids(alloc, &self.ids)?;
+        let ids = copy_entries(alloc, &self.ids)?;
         Ok(StreamKey { key, ids })
     }
 }
