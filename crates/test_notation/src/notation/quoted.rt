@@ -2,7 +2,7 @@
 ghost use Rattle.std.specs.Prelude.{◌<◌, ◌≤◌, IfOk, length};
 
 use crate::notation::error::NotationError;
-use crate::notation::scan::{expect_mark, skip_blanks, word_in};
+use crate::notation::scan::{expect_mark, skip_blanks, take_word};
 use std::alloc::Global;
 
 /// Parses a bare or quoted word, and returns its bytes and the rest of the text.
@@ -13,7 +13,7 @@ pub fn bulk_in(alloc: Global, text: &[u8]) -> Result<(Vec<u8>, &[u8]), NotationE
     if text.first() == Some(&b'"') {
         quoted_in(alloc, text)
     } else {
-        let (word, rest) = word_in(text)?;
+        let (word, rest) = take_word(text)?;
         Ok((Vec::from_slice(alloc, word)?, rest))
     }
 }

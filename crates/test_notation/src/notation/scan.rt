@@ -20,7 +20,7 @@ pub fn skip_blanks(text: &[u8]) -> &[u8]
     &text[blanks..]
 }
 
-/// Returns the text after the mark if it begins with the mark, else `None`.
+/// Skips blanks, then returns the text after the mark, or `None`.
 pub fn strip_mark(text: &[u8], mark: char) -> Option<&[u8]>
     ensures { IfSome result (λ rest. length rest.now < length text.now) }
 {
@@ -30,7 +30,7 @@ pub fn strip_mark(text: &[u8], mark: char) -> Option<&[u8]>
     }
 }
 
-/// Returns the text after the mark that it has to begin with.
+/// Skips blanks, then returns the text after the mark, or `NoMark`.
 pub fn expect_mark(text: &[u8], mark: char) -> Result<&[u8], NotationError>
     ensures { IfOk result (λ rest. length rest.now < length text.now) }
 {
@@ -38,7 +38,7 @@ pub fn expect_mark(text: &[u8], mark: char) -> Result<&[u8], NotationError>
 }
 
 /// Returns the bare word at the start of a text, and the rest of the text.
-pub fn word_in(text: &[u8]) -> Result<(&[u8], &[u8]), NotationError>
+pub fn take_word(text: &[u8]) -> Result<(&[u8], &[u8]), NotationError>
     ensures { IfOk result (λ r. length r.1.now < length text.now) }
 {
     let text = skip_blanks(text);
@@ -53,7 +53,7 @@ pub fn word_in(text: &[u8]) -> Result<(&[u8], &[u8]), NotationError>
 }
 
 /// Parses a word as a decimal number. Returns `None` if it does not fit an `i64`.
-pub fn number_in(word: &[u8]) -> Option<i64>
+pub fn parse_number(word: &[u8]) -> Option<i64>
     ensures { result ≡ option_and_then (signed_within 63) (signed_of word.now) }
 {
     let Ok(text) = str::from_utf8(word) else {

@@ -3,7 +3,7 @@ ghost use Rattle.std.specs.Prelude.{◌<◌, ◌≤◌, IfOk, length};
 
 use crate::notation::error::NotationError;
 use crate::notation::quoted::{bulk_in, text_in};
-use crate::notation::scan::{expect_mark, number_in, strip_mark, word_in};
+use crate::notation::scan::{expect_mark, parse_number, strip_mark, take_word};
 use redis_resp::Value;
 use std::alloc::Global;
 
@@ -12,7 +12,7 @@ use std::alloc::Global;
 pub fn value_in(alloc: Global, text: &[u8]) -> Result<(Value, &[u8]), NotationError>
     ensures { IfOk result (λ r. length r.1.now < length text.now) }
 {
-    match word_in(text) {
+    match take_word(text) {
         Ok((b"Array", rest)) => array_in(alloc, rest),
         Ok((b"Set", rest)) => set_in(alloc, rest),
         Ok((b"Map", rest)) => map_in(alloc, rest),
@@ -128,7 +128,7 @@ fn attribute_in(alloc: Global, text: &[u8]) -> Result<(Value, &[u8]), NotationEr
 fn plain_in(alloc: Global, text: &[u8]) -> Result<(Value, &[u8]), NotationError>
     ensures { IfOk result (λ r. length r.1.now < length text.now) }
 {
-    match word_in(text) {
+    match take_word(text) {
         Ok((b"Nil", rest)) => Ok((Value::Nil, rest)),
         Ok((b"Okay", rest)) => Ok((Value::Okay, rest)),
         Ok((b"Int", rest)) => int_in(rest),
@@ -147,8 +147,8 @@ fn plain_in(alloc: Global, text: &[u8]) -> Result<(Value, &[u8]), NotationError>
 fn int_in(text: &[u8]) -> Result<(Value, &[u8]), NotationError>
     ensures { IfOk result (λ r. length r.1.now < length text.now) }
 {
-    let (word, rest) = word_in(text)?;
-    let number = number_in(word).ok_or(NotationError::NotNumber)?;
+    let (word, rest) = take_word(text)?;
+    let number = parse_number(word).ok_or(NotationError::NotNumber)?;
     Ok((Value::Int(number), rest))
 }
 
@@ -156,7 +156,7 @@ fn int_in(text: &[u8]) -> Result<(Value, &[u8]), NotationError>
 fn boolean_in(text: &[u8]) -> Result<(Value, &[u8]), NotationError>
     ensures { IfOk result (λ r. length r.1.now < length text.now) }
 {
-    let (word, rest) = word_in(expect_mark(text, '(')?)?;
+    let (word, rest) = take_word(expect_mark(text, '(')?)?;
     match truth_of(word) {
         Some(truth) => close_value(Value::Boolean(truth), rest),
         None => Err(NotationError::NotBoolean),
@@ -209,7 +209,7 @@ fn bytes_in(alloc: Global, text: &[u8]) -> Result<(Value, &[u8]), NotationError>
         return Ok((Value::BulkString(bytes), behind));
     }
     loop {
-        let (word, behind) = word_in(rest)?;
+        let (word, behind) = take_word(rest)?;
         bytes.push(byte_in(word).ok_or(NotationError::NotNumber)?)?;
         if let Some(end) = strip_mark(behind, ')') {
             return Ok((Value::BulkString(bytes), end));
@@ -220,5 +220,5 @@ fn bytes_in(alloc: Global, text: &[u8]) -> Result<(Value, &[u8]), NotationError>
 
 /// Parses a word as a decimal number that fits a byte.
 fn byte_in(word: &[u8]) -> Option<u8> {
-    u8::try_from(number_in(word)?).ok()
+    u8::try_from(parse_number(word)?).ok()
 }
