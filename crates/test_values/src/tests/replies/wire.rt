@@ -102,7 +102,7 @@ fn commands_with_refused_memory(rt: HostRuntime) {
 }
 
 #[test]
-fn a_reply_stands_until_it_is_given_out(rt: HostRuntime) -> Result<(), Fail> {
+fn a_reply_is_found_again_until_it_is_consumed(rt: HostRuntime) -> Result<(), Fail> {
     let mut stream = ReplyStream::new(rt.alloc(), LIMITS);
     stream.feed(b"+OK\r\n:12\r\n+")?;
     for _ in 0..3u8 {
