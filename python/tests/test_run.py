@@ -242,7 +242,9 @@ class Run(Running):
             if shutil.which(command[0]):
                 with self.subTest(command[0]):
                     said = self.said(self.of_command(*command), 4)
-                    self.assertEqual((said.count("words k g"), said.count("the handler ended with")), (1, 1), said)
+                    # (the program may be ended before it says its words)
+                    self.assertLessEqual(said.count("words k g"), 1, said)
+                    self.assertEqual(said.count("the handler ended with"), 1, said)
                     self.assertTrue(said.endswith(f"jagyerti run: cannot run {command[0]}: there is no file {path}\n"), said)
 
     def test_another_file_that_a_handler_wants(self):
