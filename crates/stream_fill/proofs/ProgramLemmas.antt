@@ -84,7 +84,7 @@ module _ {D : Type 0} (seen : D → Option (List ℕ)) (may_leave : D → List �
   pub none_found : (e : BaseError) → HasNoBase seen key file file' old new e
       → (new ≡ old) ⊎ AsksLast (string_bytes s.key) old new
   none_found causes.OtherFile why = inl why.2
-  none_found (causes.File e) (inl untouched) = inl untouched.1
+  none_found (causes.File e) (inl untouched) = inl untouched.0
   none_found (causes.File e) (inr last) = asks_of old new key (string_bytes s.key) of (inl last)
   none_found (causes.Ask e) why = asks_of old new key (string_bytes s.key) of (inr (e, why.2))
 

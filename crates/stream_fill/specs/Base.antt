@@ -1,6 +1,7 @@
 -- The base of records that are added after the entries of a stream. The base is stored in a file.
 use Rattle.std.specs.Prelude.{◌≡◌, ◌⊎◌, ℕ, ◌<◌, ◌^◌, List, [], ◌∷◌, ◌++◌, decimal, Option, Some, None, IfSome}
 use Rattle.worker_journal.specs.Device.{Only}
+use Rattle.worker_journal.specs.Log.{IsOfSync}
 use Rattle.worker_journal.specs.declared.error.LogError.TheVariants as logs
 use Rattle.redis_connection.specs.Link.{Link}
 use Rattle.worker_producer.specs.Last.{LastIs, IsUntold}
@@ -71,12 +72,13 @@ module _ {D : Type 0} (seen : D → Option (List ℕ)) (may_leave : D → List �
   FindsBase file file' old new base = IsKept file file' old new base ⊎ IsAsked file file' old new base
 
 module _ {D : Type 0} (seen : D → Option (List ℕ)) (key : List ℕ) where
-  -- Why there is no base. `OtherFile`: the file has other content, and is unchanged. `File`: the file could not be
-  -- read or synced, and no command was sent; or it could not be written after the command. `Ask`: the last id could
-  -- not be read from the server, and the file is unchanged.
+  -- Why there is no base. `OtherFile`: the file has other content, and is unchanged. `File`: no command was sent, and
+  -- the file could not be read and is unchanged, or could not be synced and has the same bytes; or it could not be
+  -- written after the command. `Ask`: the last id could not be read from the server, and the file is unchanged.
   abbrev pub HasNoBase : D → D → Link → Link → BaseError → Type 0
   HasNoBase file file' old new causes.OtherFile = IfSome (seen file) (IsOther key) × (file' ≡ file) × (new ≡ old)
   HasNoBase file file' old new (causes.File e) =
-      ((seen file' ≡ seen file) × (new ≡ old)) ⊎ ((last : ℕ × ℕ) × LastIs key old new last)
+      ((new ≡ old) × ((file' ≡ file) ⊎ (IsOfSync e × (seen file' ≡ seen file))))
+      ⊎ ((last : ℕ × ℕ) × LastIs key old new last)
   HasNoBase file file' old new (causes.Ask e) =
       IfSome (seen file) (λ bytes. Keeps key bytes None) × (file' ≡ file) × IsUntold key old new e
