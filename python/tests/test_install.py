@@ -8,7 +8,9 @@ import sys
 import tempfile
 import unittest
 
+from jagyerti.connect import USAGE
 from jagyerti.process import PACKAGES
+from jagyerti.tries import UNSAFE
 
 INSTALL = os.path.join(os.path.dirname(PACKAGES), "tools", "install")
 # Builds what takes no time, in a folder.
@@ -44,6 +46,17 @@ class InstallTest(unittest.TestCase):
         self.assertIn("rt is not on the PATH: ", self.install("git"))
         self.assertEqual(self.install("git", "python3", "rt", "strip"), "install: cc is not installed: Debian's package gcc has it\n")
         self.assertEqual(self.install("git", "python3", "rt", "cc"), "install: strip is not installed: Debian's package binutils has it\n")
+
+
+@unittest.skipUnless(os.path.exists(INSTALL), "this is no checkout")
+class UnitsTest(unittest.TestCase):
+    def test_no_unit_starts_again_where_another_start_would_not_help(self) -> None:
+        for name, statuses in (("drain", f"{USAGE} {UNSAFE}"), ("run", str(USAGE))):
+            path = os.path.join(os.path.dirname(INSTALL), "templates", "package", f"jagyerti-{name}@.service")
+            with open(path, encoding="ascii") as file:
+                lines = file.read().splitlines()
+            self.assertIn("Restart=on-failure", lines)
+            self.assertIn(f"RestartPreventExitStatus={statuses}", lines)
 
 
 @unittest.skipUnless(os.path.exists(INSTALL), "this is no checkout")
