@@ -1,5 +1,6 @@
 -- The definitions that the contracts of a connection use.
 pub mod Cause
+pub mod Early
 pub mod Link
 pub mod Seen
 pub mod Passing

@@ -7,6 +7,7 @@ ghost use Rattle.redis_connection.specs.Ask.{Asks, HasNoAnswer};
 ghost use Rattle.redis_connection.specs.Link.{Link, IsEnded, IsFaulty, IsInPlace, IsRetried, GivesOut, Receives, Sends, SendsFront, Stands, Waits};
 ghost use Rattle.redis_connection.specs.Passing.{AwaitsAnswer, IsAnswerInPlace, ReceivesAnswer, one_more};
 
+use crate::early::WriteEarly;
 use crate::error::{AskError, ConnectionError};
 use crate::incoming::{receive_from, receive_in_place_from};
 use crate::outgoing::write_out;
@@ -242,6 +243,17 @@ impl<R: Read + Drop, W: Write + Drop> Connection<R, W> {
         self.send(alloc, command)?;
         let reply = self.receive(alloc)?;
         Ok(from_reply::<M>(alloc, reply)?)
+    }
+}
+
+impl<R: Read + Drop, W: WriteEarly + Drop> Connection<R, W> {
+    /// Sends some of these bytes before they are written, as `WriteEarly` says. The next `send_bytes` has to begin with
+    /// them.
+    #[tactic(auto, using(crate::proofs::EarlyLemmas::nothing_more))]
+    pub fn send_early(&mut self, bytes: &[u8])
+        ensures { Sends self.old self.new [] }
+    {
+        self.writer.write_early(bytes);
     }
 }
 

@@ -8,6 +8,7 @@
 
 mod confirming;
 mod connection;
+mod early;
 mod error;
 mod incoming;
 mod outgoing;
@@ -18,5 +19,6 @@ mod wait;
 
 pub use confirming::{ConfirmError, confirm};
 pub use connection::Connection;
+pub use early::{EarlyWriter, WriteEarly};
 pub use error::{AskError, ConnectionError};
 pub use wait::{Wait, WaitError};
