@@ -46,7 +46,7 @@ use crate::open::Open;
 use crate::options::{Options, apply_trim, options_of};
 use anyhow::{Error, Result, anyhow, bail};
 use command_lines::tell_line;
-use redis_connection::{Connection, Wait};
+use redis_connection::{Connection, EarlyWriter, Wait};
 use redis_wire::Limits;
 use std::alloc::{AllocError, Global};
 use std::io::{Read, Write};
@@ -59,7 +59,8 @@ use worker_producer::{
 
 fn main(rt: HostRuntime) -> Result<ExitCode> {
     let (alloc, words) = (rt.alloc(), read_arguments(&rt)?);
-    let mut connection = Connection::new(alloc, rt.reader(), io::writer(&rt), Limits::default())?;
+    let writer = EarlyWriter::new(alloc, io::writer(&rt));
+    let mut connection = Connection::new(alloc, rt.reader(), writer, Limits::default())?;
     run_by_words(&rt, &rt, &words, &mut connection)
 }
 
@@ -73,7 +74,12 @@ fn run_by_words<
     D: LogFile + Drop,
     O: Open<F, D>,
     T: Eprint + AllocGlobal,
->(rt: &T, files: &O, words: &[String], connection: &mut Connection<R, W>) -> Result<ExitCode>
+>(
+    rt: &T,
+    files: &O,
+    words: &[String],
+    connection: &mut Connection<R, EarlyWriter<W>>,
+) -> Result<ExitCode>
     ensures status { IfOk result (λ code. exit_status code ≤ 2) }
     ensures filled { IfOk result (λ code. exit_status code ≡ 0 → IsTrue (asks_help (map string_bytes words.now))
         ⊎ FillsAsSaid (O.content files.now) (map string_bytes words.now) connection.old connection.new) }
@@ -139,7 +145,7 @@ fn fill_by<
     D: LogFile + Drop,
     O: Open<F, D>,
     T: Eprint + AllocGlobal,
->(rt: &T, files: &O, connection: &mut Connection<R, W>, options: Options) -> Result<()>
+>(rt: &T, files: &O, connection: &mut Connection<R, EarlyWriter<W>>, options: Options) -> Result<()>
     ensures ok { OnOk result (FillsBy (O.content files.now) options connection.old connection.new) }
     ensures err { OnErr result ((connection.new ≡ connection.old)
         ⊎ StopsBy (O.content files.now) options connection.old connection.new) }
@@ -176,7 +182,7 @@ fn open_lines<F: ByteFile, D: LogFile, O: Open<F, D>>(files: &O, path: &str) -> 
 /// Adds the lines, and shows the counts. A last line without a line end is an error.
 fn fill_with<R: Read + Drop, W: Write + Drop, F: ByteFile + Drop, T: Eprint + AllocGlobal>(
     rt: &T,
-    connection: &mut Connection<R, W>,
+    connection: &mut Connection<R, EarlyWriter<W>>,
     settings: Settings,
     lines: &mut Lines<F>,
     wait: Option<Wait>,

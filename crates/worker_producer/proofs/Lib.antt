@@ -1,3 +1,4 @@
+pub mod AheadLemmas
 pub mod KeptLemmas
 pub mod ReplyLemmas
 pub mod RequestLemmas

@@ -1,9 +1,11 @@
 -- Rounds over a connection: each command gets its reply, and at the end all records are added.
-use Rattle.std.proofs.Common.{◌≡◌, ◌+◌, ◌<◌, ◌≤◌, ℕ, zero, suc, List, [], ◌∷◌, length, take, drop, Option}
+use Rattle.std.proofs.Common.{◌≡◌, ◌+◌, ◌<◌, ◌≤◌, ℕ, zero, suc, List, [], ◌∷◌, ◌++◌, length, take, drop, Option, None, Some}
 use Rattle.std.proofs.lemmas.Bool.{true≢false}
+use Rattle.std.proofs.lemmas.List.{append-nil}
+use Rattle.std.specs.Io.KnownBytes.{Appends}
 use Rattle.std.proofs.Common.{true, false, refl, sym, ap, subst, ◌∙◌, arith, add-one}
 use Rattle.redis_wire.specs.Reply as wire
-use Rattle.redis_connection.specs.Link.{Link}
+use Rattle.redis_connection.specs.Link.{Link, Sends}
 use Rattle.redis_connection.specs.Passing.{ReceivesAnswer}
 use Rattle.model_server.specs.Once.Feed as feed
 use Rattle.model_server.specs.Once.Feed.{Numbered, numbered, asking, knows, waits, learns, executed, refused, last_is}
@@ -213,4 +215,23 @@ ran_out s known count most n old new x all rounds = record {
   all = λ e. absurd (true≢false (sym e));
   finished = λ e. absurd (true≢false (sym e));
   whole = λ e. all;
+}
+
+-- ---- what was sent, and nothing more
+
+appends_none : (old between new : Option (List ℕ)) (bytes : List ℕ) → Appends old between bytes → Appends between new []
+    → Appends old new bytes
+appends_none None between new bytes a b = tt
+appends_none (Some xs) None new bytes a b = absurd a
+appends_none (Some xs) (Some ys) None bytes a b = absurd b
+appends_none (Some xs) (Some ys) (Some zs) bytes a b = b ∙ (append-nil ys ∙ a)
+
+pub sends_and_none : (old between new : Link) (bytes : List ℕ) → Sends old between bytes → Sends between new []
+    → Sends old new bytes
+sends_and_none old between new bytes a b = record {
+  appends = appends_none old.written between.written new.written bytes a.appends b.appends;
+  coming = b.coming ∙ a.coming;
+  held = b.held ∙ a.held;
+  in_place = b.in_place ∙ a.in_place;
+  passed = b.passed ∙ a.passed;
 }

@@ -10,7 +10,7 @@ use crate::error::RunError;
 use crate::producer::Producer;
 use crate::source::Source;
 use crate::stage::Asked;
-use redis_connection::{ConfirmError, Connection, Wait};
+use redis_connection::{ConfirmError, Connection, Wait, WriteEarly};
 use std::alloc::Global;
 use std::io::{Read, Write};
 use thiserror::Error;
@@ -74,7 +74,7 @@ impl Producer {
     }
 
     /// Makes one round, as `round_ahead` does, and then sends WAIT, as `round_confirmed` does.
-    pub(crate) fn round_confirmed_ahead<S: Source, R: Read + Drop, W: Write + Drop>(
+    pub(crate) fn round_confirmed_ahead<S: Source, R: Read + Drop, W: WriteEarly + Drop>(
         &mut self,
         alloc: Global,
         connection: &mut Connection<R, W>,
@@ -93,7 +93,7 @@ impl Producer {
         ensures records { S.records source.new ≡ S.records source.old }
         ensures ahead { ForSome ahead.new (IsPrepared self.old.settings (S.records source.old)) }
     {
-        let asked = self.round_ahead(alloc, connection, source, count, ahead)?;
+        let asked = self.round_ahead(alloc, connection, source, count, ahead, wait.is_none())?;
         self.confirm_round(alloc, connection, asked, wait)?;
         Ok(asked)
     }

@@ -9,7 +9,7 @@ use crate::producer::Producer;
 use crate::settings::Settings;
 use crate::source::Source;
 use crate::stage::Asked;
-use redis_connection::{Connection, Wait};
+use redis_connection::{Connection, EarlyWriter, Wait};
 use std::alloc::Global;
 use std::io::{Read, Write};
 use thiserror::Error;
@@ -38,10 +38,11 @@ impl From<ConfirmedError> for FillError {
 
 /// Makes rounds until one sends nothing, since all records are added, or until one breaks off. It begins by reading the
 /// last id. `count` is how many records there are. With `wait` each round is confirmed by replicas. While a batch is on
-/// its way, the next one is prepared.
+/// its way, the next one is prepared. Without `wait` its commands are also sent then, but for EXEC: so the server queues
+/// them, and executes none of them before the batch on its way is known to be added.
 pub fn fill<S: Source, R: Read + Drop, W: Write + Drop>(
     alloc: Global,
-    connection: &mut Connection<R, W>,
+    connection: &mut Connection<R, EarlyWriter<W>>,
     settings: Settings,
     source: &mut S,
     count: u64,

@@ -1,19 +1,20 @@
 //! A producer over a connection.
 ghost use Rattle.std.specs.Prelude.{◌≡◌, ◌<◌, ◌↔◌, [], ℕ, Ok, IfErr, IfOk, IsTrue, OnOk, OnErr, false, true};
 ghost use Rattle.std.specs.Option.{ForSome};
+ghost use Rattle.redis_connection.specs.Link.{Sends, SendsFront};
 ghost use Rattle.redis_connection.specs.Passing.{AwaitsAnswer};
 ghost use Rattle.worker_producer.specs.Ahead.{IsPrepared};
 ghost use Rattle.worker_producer.specs.Machine.{Asks, AsksNone, idle, standing_of};
 ghost use Rattle.worker_producer.specs.Session.{BeginsAsLine, Breaks, Broke, FailsToHear, HearsAll, HearsOne, IsRound, Ran, Unheard};
 
-use crate::ahead::Prepared;
+use crate::ahead::{Prepared, choose_early};
 use crate::error::{RequestError, RunError};
 use crate::executed_reply::ExecutedReply;
 use crate::producer::Producer;
 use crate::queued::receive_in_place;
 use crate::source::Source;
 use crate::stage::Asked;
-use redis_connection::Connection;
+use redis_connection::{Connection, ConnectionError, WriteEarly};
 use std::alloc::Global;
 use std::io::{Read, Write};
 
@@ -227,13 +228,14 @@ impl Producer {
     }
 
     /// Makes one round of `round_ahead`. An error leaves the producer as it is.
-    fn try_round_ahead<S: Source, R: Read + Drop, W: Write + Drop>(
+    fn try_round_ahead<S: Source, R: Read + Drop, W: WriteEarly + Drop>(
         &mut self,
         alloc: Global,
         connection: &mut Connection<R, W>,
         source: &mut S,
         count: u64,
         ahead: &mut Option<Prepared>,
+        is_early: bool,
     ) -> Result<Asked, RunError>
         requires { ForSome ahead.old (IsPrepared self.old.settings (S.records source.old)) }
         ensures ok { IfOk result (IsRound self.old.settings (S.records source.old) count
@@ -245,12 +247,37 @@ impl Producer {
         ensures ahead { ForSome ahead.new (IsPrepared self.old.settings (S.records source.old)) }
     {
         let (bytes, asked) = self.request_ahead(alloc, source, ahead.take())?;
-        if let Err(error) = connection.send_bytes(&bytes) {
-            return Err(RunError::Send(error));
+        match self.send_ahead(alloc, connection, source, &bytes, is_early) {
+            Ok(prepared) => *ahead = prepared,
+            Err(error) => return Err(RunError::Send(error)),
         }
-        *ahead = self.prepare_next(alloc, source);
         self.take_all(alloc, connection, count)?;
         Ok(asked)
+    }
+
+    /// Sends these commands, and prepares the next batch while they are on their way. If `is_early`, that batch is sent
+    /// too, but for EXEC.
+    #[tactic(auto, using(crate::proofs::SessionLemmas::sends_and_none))]
+    fn send_ahead<S: Source, R: Read + Drop, W: WriteEarly + Drop>(
+        &mut self,
+        alloc: Global,
+        connection: &mut Connection<R, W>,
+        source: &mut S,
+        bytes: &[u8],
+        is_early: bool,
+    ) -> Result<Option<Prepared>, ConnectionError>
+        ensures ok { OnOk result (Sends connection.old connection.new bytes.now) }
+        ensures err { OnErr result (SendsFront connection.old connection.new bytes.now) }
+        ensures prepared { IfOk result (λ prepared. ForSome prepared
+            (IsPrepared self.old.settings (S.records source.old))) }
+        ensures standing { standing_of self.new ≡ standing_of self.old }
+        ensures settings { self.new.settings ≡ self.old.settings }
+        ensures records { S.records source.new ≡ S.records source.old }
+    {
+        connection.send_bytes(bytes)?;
+        let prepared = self.prepare_next(alloc, source);
+        connection.send_early(choose_early(&prepared, is_early));
+        Ok(prepared)
     }
 
     /// The bytes to send next: those that were prepared, if they are the next ones.
@@ -279,14 +306,16 @@ impl Producer {
     }
 
     /// Makes one round, as `round` does, and prepares the next batch while this one is on its way. `ahead` has what
-    /// was prepared for these settings and this source, and is `None` at first.
-    pub(crate) fn round_ahead<S: Source, R: Read + Drop, W: Write + Drop>(
+    /// was prepared for these settings and this source, and is `None` at first. If `is_early`, the commands of that
+    /// batch are sent, but for EXEC.
+    pub(crate) fn round_ahead<S: Source, R: Read + Drop, W: WriteEarly + Drop>(
         &mut self,
         alloc: Global,
         connection: &mut Connection<R, W>,
         source: &mut S,
         count: u64,
         ahead: &mut Option<Prepared>,
+        is_early: bool,
     ) -> Result<Asked, RunError>
         requires { ForSome ahead.old (IsPrepared self.old.settings (S.records source.old)) }
         ensures ok { IfOk result (IsRound self.old.settings (S.records source.old) count
@@ -298,7 +327,7 @@ impl Producer {
         ensures records { S.records source.new ≡ S.records source.old }
         ensures ahead { ForSome ahead.new (IsPrepared self.old.settings (S.records source.old)) }
     {
-        match self.try_round_ahead(alloc, connection, source, count, ahead) {
+        match self.try_round_ahead(alloc, connection, source, count, ahead, is_early) {
             Ok(asked) => Ok(asked),
             Err(error) => {
                 self.disconnected();
