@@ -180,9 +180,10 @@ class Link:
         replies = b""
         with contextlib.suppress(OSError):
             self.far.settimeout(5)
-            self.far.sendall(self.held + resp.encode(["PING"]))
+            # what is queued without its EXEC is dropped, as at the end of the connection
+            self.far.sendall(self.held + resp.encode(["DISCARD"]) + resp.encode(["PING"]))
             while not replies.endswith(b"+PONG\r\n") and (piece := self.far.recv(1 << 16)):
                 replies += piece
         self.far.close()
-        self.came_late = replies.endswith(b"+PONG\r\n") and self.held.endswith(resp.encode(["EXEC"]))
+        self.came_late = replies.endswith(b"+PONG\r\n") and resp.encode(["EXEC"]) in self.held
         self.added_late = self.came_late and re.search(rb"\r\n\d+-0\r\n", replies) is not None
