@@ -36,6 +36,7 @@ use std::io;
 use std::io::{ErrorKind, Write};
 use stream_commands::monitor::group_state::group_state;
 use test_notation::read_value;
+use worker_journal::known_ids::{FileError, number_of, numbers_of_file};
 use worker_journal::{
     LineLog, LogError, LogFile, MemoryFile, TornFile, entry_in, push_escaped, repair,
 };
@@ -90,6 +91,9 @@ fn run_word(alloc: Global, word: &str, value: Value) -> Result<String> {
         "files" => commit_to_file(alloc, value),
         "escapes" => escape_text(alloc, value),
         "line" => read_entry(alloc, value),
+        "number-of-id" => compute_number(alloc, value),
+        "ids-of-lines" => list_ids(alloc, value, false),
+        "ids-of-json" => list_ids(alloc, value, true),
         "protocols" => read_both_protocols(alloc, value),
         "streams" => read_streams(alloc, value),
         "order-sent" => encode_order(alloc, value),
@@ -650,6 +654,27 @@ fn read_entry(alloc: Global, line: Value) -> Result<String> {
     for (name, value) in &entry.fields {
         let (name, value) = (str::from_utf8(name)?, str::from_utf8(value)?);
         write!(shown, " {name:?}={value:?}")?;
+    }
+    Ok(shown)
+}
+
+/// Returns the number of an id, `None` for another text.
+fn compute_number(alloc: Global, text: Value) -> Result<String> {
+    let text: RawBytes = from_redis_value(alloc, text)?;
+    Ok(format!(in alloc; "{:?}", number_of(&text.0))?)
+}
+
+/// Returns the number of each id in a file of these bytes, with the offset of its line, or which line has no entry.
+fn list_ids(alloc: Global, bytes: Value, json: bool) -> Result<String> {
+    let bytes: RawBytes = from_redis_value(alloc, bytes)?;
+    let ids = match numbers_of_file(alloc, &MemoryFile::new(alloc, bytes.0), json) {
+        Ok(ids) => ids,
+        Err(FileError::NoEntry(line)) => return Ok(format!(in alloc; "no entry in line {line}")?),
+        Err(error) => return Err(error.into()),
+    };
+    let mut shown = format!(in alloc; "{} ids", ids.len())?;
+    for id in &ids {
+        write!(shown, ", {} at {}", id.number(), id.place())?;
     }
     Ok(shown)
 }

@@ -1,51 +1,14 @@
-//! Numbers of ids, the set of known ids, and the ids in files. Each expected result was computed by hand.
+//! The set of known ids, and the ids in a long file. Each expected result was computed by hand. The program
+//! `test_cases` has the numbers of ids, and the ids in short files.
 use crate::check_same;
 use std::alloc::AllocError;
 use std::process::Abort;
-use worker_journal::known_ids::{FileError, KnownId, KnownIds, number_of, numbers_of_file};
+use worker_journal::known_ids::{FileError, KnownId, KnownIds, numbers_of_file};
 use worker_journal::{LogError, MemoryFile};
 
 /// Returns the number of an id: its milliseconds times 2^64, and its sequence number.
 fn to_u128(ms: u64, seq: u64) -> u128 {
     ms as u128 * 18_446_744_073_709_551_616 + seq as u128
-}
-
-#[test]
-fn an_id_has_the_number_of_its_parts(rt: HostRuntime) {
-    check_same(&rt, number_of(b"0-0"), Some(0));
-    check_same(&rt, number_of(b"0-7"), Some(7));
-    check_same(&rt, number_of(b"1-0"), Some(18_446_744_073_709_551_616));
-    check_same(&rt, number_of(b"12-34"), Some(to_u128(12, 34)));
-    check_same(
-        &rt,
-        number_of(b"1526919030474-55"),
-        Some(to_u128(1_526_919_030_474, 55)),
-    );
-    let last = b"18446744073709551615-18446744073709551615".as_slice();
-    check_same(&rt, number_of(last), Some(u128::MAX));
-}
-
-#[test]
-fn another_text_has_none(rt: HostRuntime) {
-    for text in [
-        b"".as_slice(),
-        b"-".as_slice(),
-        b"1".as_slice(),
-        b"1-".as_slice(),
-        b"-1".as_slice(),
-        b"1-2-3".as_slice(),
-        b"01-0".as_slice(),
-        b"1-00".as_slice(),
-        b"+1-0".as_slice(),
-        b"1-+0".as_slice(),
-        b"1-0 ".as_slice(),
-        b"1-a".as_slice(),
-        b"18446744073709551616-0".as_slice(),
-        b"0-18446744073709551616".as_slice(),
-        b"1\xff0".as_slice(),
-    ] {
-        assert!(rt; number_of(text).is_none(), "{text:?}");
-    }
 }
 
 #[test]
@@ -121,13 +84,9 @@ fn nothing_is_known_at_first(rt: HostRuntime) {
 }
 
 /// Returns the ids of the lines of a file with these bytes.
-fn read_ids(
-    rt: &(impl AllocGlobal + Abort),
-    bytes: &[u8],
-    json: bool,
-) -> Result<Vec<KnownId>, FileError> {
+fn read_ids(rt: &(impl AllocGlobal + Abort), bytes: &[u8]) -> Result<Vec<KnownId>, FileError> {
     let file = MemoryFile::new(rt.alloc(), bytes.to_vec(rt.alloc())?);
-    numbers_of_file(rt.alloc(), &file, json)
+    numbers_of_file(rt.alloc(), &file, false)
 }
 
 /// Checks that these are the ids, and these the offsets of their lines.
@@ -137,83 +96,6 @@ fn check_ids(rt: &impl Abort, told: &[KnownId], ids: &[(u128, usize)]) {
         check_same(rt, told.number(), *number);
         check_same(rt, told.place(), *place);
     }
-}
-
-/// Checks the ids of a file of these bytes, and the offsets of their lines.
-fn check_file(rt: &(impl AllocGlobal + Abort), bytes: &[u8], json: bool, ids: &[(u128, usize)]) {
-    match read_ids(rt, bytes, json) {
-        Ok(told) => check_ids(rt, &told, ids),
-        Err(error) => panic!(rt; "{error}"),
-    }
-}
-
-/// Checks that a file of these bytes is refused, since the line of this number has no entry.
-fn check_no_entry(rt: &(impl AllocGlobal + Abort), bytes: &[u8], json: bool, line: u64) {
-    match read_ids(rt, bytes, json) {
-        Err(FileError::NoEntry(number)) => check_same(rt, number, line),
-        _ => panic!(rt; "there is an id in line {line}"),
-    }
-}
-
-#[test]
-fn lines_of_tabs_tell_ids(rt: HostRuntime) {
-    check_file(&rt, b"", false, [].as_slice());
-    check_file(
-        &rt,
-        b"1-0\tn\tv\n",
-        false,
-        [(to_u128(1, 0), 0usize)].as_slice(),
-    );
-    // The lines have 3, 7 and 6 bytes, and an end each.
-    check_file(
-        &rt,
-        b"3-1\n1-0\tn\tv\n2-7\tn\t\n",
-        false,
-        [
-            (to_u128(3, 1), 0usize),
-            (to_u128(1, 0), 4),
-            (to_u128(2, 7), 12),
-        ]
-        .as_slice(),
-    );
-    check_no_entry(&rt, b"1-0\tn\tv\n\n", false, 2);
-    check_no_entry(&rt, b"no entry\n", false, 1);
-    check_no_entry(&rt, b"1-0\n01-0\tn\tv\n3-0\n", false, 2);
-    check_no_entry(&rt, b"{\"id\":\"1-0\",\"fields\":[]}\n", false, 1);
-}
-
-#[test]
-fn lines_of_json_tell_ids(rt: HostRuntime) {
-    let lines =
-        b"{\"id\":\"1-0\",\"fields\":[]}\n{\"id\":\"0-2\",\"fields\":[[\"n\",\"v\"]]}\n".as_slice();
-    // The first line has 24 bytes and its end.
-    check_file(
-        &rt,
-        lines,
-        true,
-        [(to_u128(1, 0), 0usize), (2, 25)].as_slice(),
-    );
-    check_no_entry(&rt, b"{\"id\":\"1-0\"}\n", true, 1);
-    check_no_entry(&rt, b"{\"id\":\"\\u0031-0\",\"fields\":[]}\n", true, 1);
-    check_no_entry(&rt, b"{\"id\":1-0\",\"fields\":[]}\n", true, 1);
-    check_no_entry(&rt, b"1-0\tn\tv\n", true, 1);
-}
-
-#[test]
-fn what_has_no_end_is_no_line(rt: HostRuntime) {
-    check_file(
-        &rt,
-        b"1-0\tn\tv\n2-0",
-        false,
-        [(to_u128(1, 0), 0usize)].as_slice(),
-    );
-    check_file(&rt, b"no entry", false, [].as_slice());
-    check_file(
-        &rt,
-        b"1-0\tn\tv\n{",
-        false,
-        [(to_u128(1, 0), 0usize)].as_slice(),
-    );
 }
 
 /// Returns the bytes of a file that is read in several pieces. Lines cross the ends of pieces.
@@ -234,7 +116,7 @@ fn make_long_file(rt: &(impl AllocGlobal + Abort)) -> Result<Vec<u8>, AllocError
 /// Checks each id of the long file, and the offsets of three lines.
 fn check_long(rt: &(impl AllocGlobal + Abort)) -> Result<(), FileError> {
     let bytes = make_long_file(rt)?;
-    let told = read_ids(rt, &bytes, false)?;
+    let told = read_ids(rt, &bytes)?;
     assert_eq!(rt; told.len(), 20_000);
     for number in 0..20_000usize {
         assert_eq!(rt;
@@ -259,7 +141,7 @@ fn refused_memory_changes_nothing_else(rt: HostRuntime) {
     match fill(&rt) {
         Ok(()) | Err(AllocError) => {}
     }
-    match read_ids(&rt, b"1-0\tn\tv\n2-0\n3-0", false) {
+    match read_ids(&rt, b"1-0\tn\tv\n2-0\n3-0") {
         Ok(told) => check_ids(
             &rt,
             &told,
