@@ -7,6 +7,8 @@
 //! Only those with `refused_memory` in their names go on when memory runs out.
 #![tactic(auto)]
 
+#[cfg(test)]
+mod copied;
 mod fixed_args;
 #[cfg(test)]
 mod sizes;
@@ -14,13 +16,11 @@ mod sizes;
 mod tests;
 
 #[cfg(test)]
-use redis_resp::{FromRedisValue, from_redis_value, from_redis_value_ref};
+use redis_resp::{FromRedisValue, ParsingError, from_redis_value, from_redis_value_ref};
 #[cfg(test)]
 use std::fmt::Debug;
 #[cfg(test)]
 use std::process::Abort;
-#[cfg(test)]
-use std::test::Fail;
 #[cfg(test)]
 use test_notation::read_value;
 
@@ -31,17 +31,21 @@ fn check_value<T: FromRedisValue + Debug>(
     rt: &(impl AllocGlobal + Abort),
     notation: &str,
     shown: &str,
-) -> Result<(), Fail> {
-    let alloc = rt.alloc();
-    let value = read_value(alloc, notation)?;
-    let copy = value.try_clone(alloc)?;
-    let borrowed = format!(in alloc; "{:?}", from_redis_value_ref::<T>(alloc, &value))?;
-    assert!(rt;
-        borrowed.as_str() == shown,
-        "borrowed: {borrowed}, not {shown}"
-    );
+) {
+    let value = read_value(rt.alloc(), notation).expect(rt, "a value");
+    let copy = value.try_clone(rt.alloc()).expect(rt, "memory");
+    check_shown(rt, &from_redis_value_ref::<T>(rt.alloc(), &value), shown);
     assert!(rt; value == copy, "{notation} was changed");
-    let owned = format!(in alloc; "{:?}", from_redis_value::<T>(alloc, value))?;
-    assert!(rt; owned.as_str() == shown, "owned: {owned}, not {shown}");
-    Ok(())
+    check_shown(rt, &from_redis_value::<T>(rt.alloc(), value), shown);
+}
+
+/// Checks that `Debug` prints the result like this.
+#[cfg(test)]
+fn check_shown<T: Debug>(
+    rt: &(impl AllocGlobal + Abort),
+    answer: &Result<T, ParsingError>,
+    shown: &str,
+) {
+    let told = format!(in rt.alloc(); "{answer:?}").expect(rt, "memory");
+    assert!(rt; told.as_str() == shown, "{told}, not {shown}");
 }

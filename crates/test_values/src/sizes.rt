@@ -13,8 +13,7 @@ mod values;
 use redis_resp::{FromRedisValue, ParsingError, Value, from_redis_value, from_redis_value_ref};
 use std::alloc::{AllocError, Global};
 use std::process::Abort;
-use std::test::Fail;
-use test_notation::PrintedForm;
+use test_notation::{PrintedForm, read_value};
 
 /// A line of items: the text before them, one item, the text between each two, and the text after
 /// them.
@@ -22,7 +21,16 @@ use test_notation::PrintedForm;
 type Line<'a> = (&'a str, &'a str, &'a str, &'a str);
 
 /// A line of `count` items.
-fn line_of(alloc: Global, line: Line<'_>, count: usize) -> Result<String, AllocError> {
+fn line_of(rt: &(impl AllocGlobal + Abort), line: Line<'_>, count: usize) -> String {
+    write_line(rt.alloc(), line, count).expect(rt, "memory")
+}
+
+/// The value of a line of `count` items in the notation.
+fn value_of(rt: &(impl AllocGlobal + Abort), line: Line<'_>, count: usize) -> Value {
+    read_value(rt.alloc(), &line_of(rt, line, count)).expect(rt, "a value")
+}
+
+fn write_line(alloc: Global, line: Line<'_>, count: usize) -> Result<String, AllocError> {
     let (before, item, between, behind) = line;
     let mut text = String::from_str(alloc, before)?;
     for number in 0..count {
@@ -55,12 +63,12 @@ fn check_printed<T: FromRedisValue + PrintedForm>(
     rt: &(impl AllocGlobal + Abort),
     value: Value,
     printed: &str,
-) -> Result<(), Fail> {
-    let copy = value.try_clone(rt.alloc())?;
-    check_answer(rt, from_redis_value_ref::<T>(rt.alloc(), &value), printed)?;
+) {
+    let copy = value.try_clone(rt.alloc()).expect(rt, "memory");
+    check_answer(rt, from_redis_value_ref::<T>(rt.alloc(), &value), printed);
     assert!(rt; value == copy, "{printed}: the value was changed");
     drop(copy);
-    check_answer(rt, from_redis_value::<T>(rt.alloc(), value), printed)
+    check_answer(rt, from_redis_value::<T>(rt.alloc(), value), printed);
 }
 
 /// Checks that the result has this printed form.
@@ -68,11 +76,11 @@ fn check_answer<T: PrintedForm + Drop>(
     rt: &(impl AllocGlobal + Abort),
     answer: Result<T, ParsingError>,
     printed: &str,
-) -> Result<(), Fail> {
+) {
     let told = match answer {
-        Ok(record) => record.printed(rt.alloc())?,
-        Err(error) => error.printed(rt.alloc())?,
+        Ok(record) => record.printed(rt.alloc()),
+        Err(error) => error.printed(rt.alloc()),
     };
+    let told = told.expect(rt, "memory");
     assert!(rt; told.as_str() == printed, "{told}, not {printed}");
-    Ok(())
 }

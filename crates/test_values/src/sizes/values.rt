@@ -1,30 +1,20 @@
 //! Large values: their readings as plain types, and their copies.
 use crate::check_value;
-use crate::sizes::{Line, line_of};
+use crate::sizes::{Line, line_of, value_of};
 use indexmap::IndexMap;
 use std::process::Abort;
-use std::test::Fail;
-use test_notation::read_value;
 
 #[test]
-fn a_long_list_is_read(rt: HostRuntime) -> Result<(), Fail> {
-    let notation = line_of(rt.alloc(), ("Array[", "Int $", ", ", "]"), 10_000)?;
-    let shown = line_of(rt.alloc(), ("Ok([", "$", ", ", "])"), 10_000)?;
-    check_value::<Vec<i64>>(&rt, notation.as_str(), shown.as_str())
-}
-
-#[test]
-fn a_large_table_is_read(rt: HostRuntime) -> Result<(), Fail> {
-    let notation = line_of(rt.alloc(), ("Map[", "n$: Int $", ", ", "]"), 10_000)?;
-    let shown = line_of(rt.alloc(), ("Ok({", "\"n$\": $", ", ", "})"), 10_000)?;
-    check_value::<IndexMap<String, u16>>(&rt, notation.as_str(), shown.as_str())
-}
-
-#[test]
-fn a_large_text_is_read(rt: HostRuntime) -> Result<(), Fail> {
-    let notation = line_of(rt.alloc(), ("", "x", "", ""), 65_536)?;
-    let shown = line_of(rt.alloc(), ("Ok(\"", "x", "", "\")"), 65_536)?;
-    check_value::<String>(&rt, notation.as_str(), shown.as_str())
+fn large_values_are_read(rt: HostRuntime) {
+    let list = line_of(&rt, ("Array[", "Int $", ", ", "]"), 10_000);
+    let shown = line_of(&rt, ("Ok([", "$", ", ", "])"), 10_000);
+    check_value::<Vec<i64>>(&rt, &list, &shown);
+    let table = line_of(&rt, ("Map[", "n$: Int $", ", ", "]"), 10_000);
+    let shown = line_of(&rt, ("Ok({", "\"n$\": $", ", ", "})"), 10_000);
+    check_value::<IndexMap<String, u16>>(&rt, &table, &shown);
+    let text = line_of(&rt, ("", "x", "", ""), 65_536);
+    let shown = line_of(&rt, ("Ok(\"", "x", "", "\")"), 65_536);
+    check_value::<String>(&rt, &text, &shown);
 }
 
 const KINDS: [Line<'static>; 8] = [
@@ -38,20 +28,18 @@ const KINDS: [Line<'static>; 8] = [
     ("Attr(Nil; ", "Int $: Okay", ", ", ")"),
 ];
 
-/// Checks that a copy of the value is equal to it.
-fn check_copy(rt: &(impl AllocGlobal + Abort), notation: &str) -> Result<(), Fail> {
-    let value = read_value(rt.alloc(), notation)?;
-    let copy = value.try_clone(rt.alloc())?;
-    assert!(rt; copy == value, "{notation}");
-    Ok(())
+/// Checks that a copy of the value of this number of items is equal to it.
+fn check_copy(rt: &(impl AllocGlobal + Abort), items: Line<'_>, length: usize) {
+    let value = value_of(rt, items, length);
+    let copy = value.try_clone(rt.alloc()).expect(rt, "memory");
+    assert!(rt; copy == value, "{length} items of {}", items.0);
 }
 
 #[test]
-fn values_of_each_length_are_copied(rt: HostRuntime) -> Result<(), Fail> {
+fn values_of_each_length_are_copied(rt: HostRuntime) {
     for kind in &KINDS {
         for length in 1..65 {
-            check_copy(&rt, line_of(rt.alloc(), *kind, length)?.as_str())?;
+            check_copy(&rt, *kind, length);
         }
     }
-    Ok(())
 }

@@ -13,24 +13,16 @@ use stream_options::{
 };
 
 #[test]
-fn an_entry_of_one_field_is_added(rt: HostRuntime) {
+fn entries_are_added(rt: HostRuntime) {
     let add = xadd("orders", "1-0", ("item", "tea"));
     check(&rt, &add, "XADD orders 1-0 item tea");
-}
-
-#[test]
-fn an_entry_is_added_and_old_ones_are_cut(rt: HostRuntime) {
-    let kept = StreamMaxlen::Approx(1000);
-    let add = xadd_maxlen("orders", kept, "3-0", ("item", "tea"));
-    check(&rt, &add, "XADD orders MAXLEN ~ 1000 3-0 item tea");
-}
-
-#[test]
-fn an_entry_of_two_fields_is_added(rt: HostRuntime) {
     let fields = [("item", "cup"), ("size", "2")];
     let two = AtLeastOne::new(&fields).expect(&rt, "fields");
     let add = xadd("orders", "2-0", two);
     check(&rt, &add, "XADD orders 2-0 item cup size 2");
+    let kept = StreamMaxlen::Approx(1000);
+    let add = xadd_maxlen("orders", kept, "3-0", ("item", "tea"));
+    check(&rt, &add, "XADD orders MAXLEN ~ 1000 3-0 item tea");
 }
 
 #[test]
@@ -55,17 +47,8 @@ fn fields_of_an_entry_are_added_again(rt: HostRuntime) {
     let fields = fields_of(&rt, "item", &[7, 8]);
     let own = pair_fields(&fields).expect(&rt, "fields");
     check(&rt, &xadd("dead", "*", own), "XADD dead * item 7 item 8");
-}
-
-#[test]
-fn fields_of_an_entry_and_a_new_one_are_added(rt: HostRuntime) {
-    let fields = fields_of(&rt, "item", &[7, 8]);
     let add = xadd("dead", "*", FieldsThen(&fields, ("times", 3u64)));
     check(&rt, &add, "XADD dead * item 7 item 8 times 3");
-}
-
-#[test]
-fn no_fields_and_a_new_one_are_added(rt: HostRuntime) {
     let none = fields_of(&rt, "item", &[]);
     assert!(rt; pair_fields(&none).is_none());
     let add = xadd("dead", "*", FieldsThen(&none, ("times", 3u64)));
@@ -73,14 +56,9 @@ fn no_fields_and_a_new_one_are_added(rt: HostRuntime) {
 }
 
 #[test]
-fn all_entries_are_listed(rt: HostRuntime) {
+fn entries_are_listed(rt: HostRuntime) {
     check(&rt, &xlen("orders"), "XLEN orders");
     check(&rt, &xrange_all("orders"), "XRANGE orders - +");
-    check(&rt, &xrevrange_all("orders"), "XREVRANGE orders + -");
-}
-
-#[test]
-fn entries_are_listed_in_order(rt: HostRuntime) {
     let range = xrange("orders", "1-0", "2-0");
     check(&rt, &range, "XRANGE orders 1-0 2-0");
     let range = xrange_count("orders", "2", "+", 1);
@@ -89,6 +67,7 @@ fn entries_are_listed_in_order(rt: HostRuntime) {
 
 #[test]
 fn entries_are_listed_backwards(rt: HostRuntime) {
+    check(&rt, &xrevrange_all("orders"), "XREVRANGE orders + -");
     let range = xrevrange("orders", "+", "3-0");
     check(&rt, &range, "XREVRANGE orders + 3-0");
     let range = xrevrange_count("orders", "+", "-", 1);
@@ -100,13 +79,8 @@ fn streams_are_read(rt: HostRuntime) {
     let streams = [("orders", "3-0"), ("none", "0-0")];
     let both = AtLeastOne::new(&streams).expect(&rt, "streams");
     check(&rt, &xread(both), "XREAD STREAMS orders none 3-0 0-0");
-}
-
-#[test]
-fn a_stream_is_read_with_options(rt: HostRuntime) {
-    let orders = ("orders", "3-0");
     let count = StreamReadOptions::default().noack().count(1);
-    let read = xread_options(AtLeastOne::one(&orders), &count);
+    let read = xread_options(AtLeastOne::one(&streams[0]), &count);
     check(&rt, &read, "XREAD COUNT 1 STREAMS orders 3-0");
 }
 
@@ -115,10 +89,6 @@ fn entries_are_deleted(rt: HostRuntime) {
     let ids = ["1-0", "9-9"];
     let both = AtLeastOne::new(&ids).expect(&rt, "ids");
     check(&rt, &xdel("orders", both), "XDEL orders 1-0 9-9");
-}
-
-#[test]
-fn an_entry_is_deleted_by_a_policy(rt: HostRuntime) {
     let policy = StreamDeletionPolicy::KeepRef;
     let delete = xdel_ex("orders", AtLeastOne::one(&"1-0"), policy);
     check(&rt, &delete, "XDELEX orders KEEPREF IDS 1 1-0");
@@ -128,10 +98,6 @@ fn an_entry_is_deleted_by_a_policy(rt: HostRuntime) {
 fn streams_are_cut(rt: HostRuntime) {
     let cut = xtrim("orders", StreamMaxlen::Equals(2));
     check(&rt, &cut, "XTRIM orders MAXLEN = 2");
-}
-
-#[test]
-fn a_stream_is_cut_with_options(rt: HostRuntime) {
     let options = StreamTrimOptions::maxlen(StreamTrimmingMode::Approx, 1).limit(50);
     let options = options.set_deletion_policy(StreamDeletionPolicy::Acked);
     let cut = xtrim_options("orders", &options);

@@ -17,10 +17,6 @@ fn groups_are_created(rt: HostRuntime) {
     check(&rt, &create, "XGROUP CREATE orders g 0");
     let create = xgroup_create_mkstream("made", "g", "$");
     check(&rt, &create, "XGROUP CREATE made g $ MKSTREAM");
-}
-
-#[test]
-fn a_group_that_has_read_and_a_consumer_are_created(rt: HostRuntime) {
     let create = xgroup_create_entries_read("orders", "h", "2-0", 2);
     check(&rt, &create, "XGROUP CREATE orders h 2-0 ENTRIESREAD 2");
     let create = xgroup_createconsumer("orders", "g", "c");
@@ -28,15 +24,11 @@ fn a_group_that_has_read_and_a_consumer_are_created(rt: HostRuntime) {
 }
 
 #[test]
-fn groups_are_set(rt: HostRuntime) {
+fn groups_are_set_and_removed(rt: HostRuntime) {
     let set = xgroup_setid("orders", "g", "0-0");
     check(&rt, &set, "XGROUP SETID orders g 0-0");
     let set = xgroup_setid_entries_read("orders", "h", "3-0", 3);
     check(&rt, &set, "XGROUP SETID orders h 3-0 ENTRIESREAD 3");
-}
-
-#[test]
-fn groups_and_consumers_are_removed(rt: HostRuntime) {
     let delete = xgroup_delconsumer("orders", "g", "c");
     check(&rt, &delete, "XGROUP DELCONSUMER orders g c");
     let destroy = xgroup_destroy("orders", "g");
@@ -44,26 +36,22 @@ fn groups_and_consumers_are_removed(rt: HostRuntime) {
 }
 
 #[test]
-fn pending_entries_are_told(rt: HostRuntime) {
+fn pending_entries_are_listed(rt: HostRuntime) {
     check(&rt, &xpending("orders", "g"), "XPENDING orders g");
-    let told = xpending_count("orders", "g", "-", "+", 10);
-    check(&rt, &told, "XPENDING orders g - + 10");
+    let listed = xpending_count("orders", "g", "-", "+", 10);
+    check(&rt, &listed, "XPENDING orders g - + 10");
+    let listed = xpending_consumer_count("orders", "g", "-", "+", 10, "c");
+    check(&rt, &listed, "XPENDING orders g - + 10 c");
 }
 
 #[test]
-fn pending_entries_of_a_consumer_are_told(rt: HostRuntime) {
-    let told = xpending_consumer_count("orders", "g", "-", "+", 10, "c");
-    check(&rt, &told, "XPENDING orders g - + 10 c");
-    let told = xpending_idle_count("orders", "g", 60_000, "-", "+", 10);
-    check(&rt, &told, "XPENDING orders g IDLE 60000 - + 10");
-}
-
-#[test]
-fn idle_entries_of_a_consumer_are_told(rt: HostRuntime) {
-    let told = xpending_idle_consumer_count("orders", "g", 60_000, "-", "+", 10, "d");
-    check(&rt, &told, "XPENDING orders g IDLE 60000 - + 10 d");
-    let told = xpending_idle_consumer_count("orders", "g", 0, "-", "+", 1, "d");
-    check(&rt, &told, "XPENDING orders g IDLE 0 - + 1 d");
+fn idle_entries_are_listed(rt: HostRuntime) {
+    let listed = xpending_idle_count("orders", "g", 60_000, "-", "+", 10);
+    check(&rt, &listed, "XPENDING orders g IDLE 60000 - + 10");
+    let listed = xpending_idle_consumer_count("orders", "g", 60_000, "-", "+", 10, "d");
+    check(&rt, &listed, "XPENDING orders g IDLE 60000 - + 10 d");
+    let listed = xpending_idle_consumer_count("orders", "g", 0, "-", "+", 1, "d");
+    check(&rt, &listed, "XPENDING orders g IDLE 0 - + 1 d");
 }
 
 #[test]
@@ -71,11 +59,6 @@ fn pending_entries_are_acknowledged(rt: HostRuntime) {
     let ids = ["3-0", "4-0"];
     let both = AtLeastOne::new(&ids).expect(&rt, "ids");
     check(&rt, &xack("orders", "g", both), "XACK orders g 3-0 4-0");
-}
-
-#[test]
-fn pending_entries_are_acknowledged_and_deleted(rt: HostRuntime) {
-    let ids = ["3-0", "4-0"];
     let both = AtLeastOne::new(&ids).expect(&rt, "ids");
     let delete = xack_del("orders", "g", both, StreamDeletionPolicy::DelRef);
     check(&rt, &delete, "XACKDEL orders g DELREF IDS 2 3-0 4-0");
@@ -85,10 +68,6 @@ fn pending_entries_are_acknowledged_and_deleted(rt: HostRuntime) {
 fn pending_entries_are_claimed(rt: HostRuntime) {
     let claim = xclaim("orders", "g", "d", 0, AtLeastOne::one(&"3-0"));
     check(&rt, &claim, "XCLAIM orders g d 0 3-0");
-}
-
-#[test]
-fn pending_entries_are_claimed_by_ids_alone(rt: HostRuntime) {
     let options = StreamClaimOptions::default().retry(3).with_force();
     let claim = xclaim_justid("orders", "g", "c", 0, AtLeastOne::one(&"3-0"), options);
     let line = "XCLAIM orders g c 0 3-0 RETRYCOUNT 3 FORCE JUSTID";
@@ -118,44 +97,28 @@ fn entries_are_not_claimed_by_ids_alone(rt: HostRuntime) {
     let options = StreamClaimOptions::default().idle(5).with_justid();
     let claim = xclaim_options("orders", "g", "d", 0, AtLeastOne::one(&"3-0"), &options);
     assert!(rt; claim.err() == Some(JustIdIsSet));
-}
-
-#[test]
-fn entries_are_not_claimed_automatically_by_ids_alone(rt: HostRuntime) {
     let options = StreamAutoClaimOptions::default().with_justid().count(1);
     let claim = xautoclaim_options("orders", "g", "d", 0, "0-0", &options);
     assert!(rt; claim.err() == Some(JustIdIsSet));
 }
 
 #[test]
-fn streams_are_described(rt: HostRuntime) {
+fn streams_and_groups_are_described(rt: HostRuntime) {
     check(&rt, &xinfo_stream("orders"), "XINFO STREAM orders");
     let described = xinfo_stream_with_idempotency("orders");
     check(&rt, &described, "XINFO STREAM orders");
-}
-
-#[test]
-fn groups_and_consumers_are_described(rt: HostRuntime) {
+    let described = xinfo_stream_full("orders");
+    check(&rt, &described, "XINFO STREAM orders FULL");
+    let described = xinfo_stream_full_count("orders", 1);
+    check(&rt, &described, "XINFO STREAM orders FULL COUNT 1");
     check(&rt, &xinfo_groups("orders"), "XINFO GROUPS orders");
     let described = xinfo_consumers("orders", "g");
     check(&rt, &described, "XINFO CONSUMERS orders g");
 }
 
 #[test]
-fn streams_are_described_in_full(rt: HostRuntime) {
-    let described = xinfo_stream_full("orders");
-    check(&rt, &described, "XINFO STREAM orders FULL");
-    let described = xinfo_stream_full_count("orders", 1);
-    check(&rt, &described, "XINFO STREAM orders FULL COUNT 1");
-}
-
-#[test]
 fn counts_of_streams_are_set(rt: HostRuntime) {
     check(&rt, &xsetid("orders", "9-0"), "XSETID orders 9-0");
-}
-
-#[test]
-fn counts_of_streams_are_set_with_what_was_added(rt: HostRuntime) {
     let set = xsetid_entries_added("orders", "9-0", 9, "1-0");
     let line = "XSETID orders 9-0 ENTRIESADDED 9 MAXDELETEDID 1-0";
     check(&rt, &set, line);

@@ -1,5 +1,6 @@
 //! The reply of XAUTOCLAIM with JUSTID, by both calls. A reply is written as its bytes,
 //! with a blank in place of each line end.
+use crate::check_shown;
 use redis_resp::{ParsingError, Value};
 use redis_streams::StreamAutoClaimJustIdReply;
 use redis_wire::{Decoded, Limits, Reply, decode};
@@ -38,12 +39,6 @@ fn read_borrowed(alloc: Global, value: &Value) -> Answer {
 fn read_owned(alloc: Global, value: Value) -> Answer {
     let options = StreamAutoClaimOptions::default();
     xautoclaim_justid("orders", "g", "c", 0, "0-0", options).read(alloc, value)
-}
-
-/// Checks that `Debug` prints the result like this.
-fn check_shown(rt: &(impl Abort + AllocGlobal), answer: &Answer, shown: &str) {
-    let told = (format!(in rt.alloc(); "{answer:?}")).expect(rt, "memory");
-    assert!(rt; told.as_str() == shown, "{told}");
 }
 
 /// Checks that both calls return this for the value, as `Debug` prints a record or a refusal. A copy of

@@ -1,11 +1,10 @@
 //! Whole commands of texts are the argument lists of the laws.
-ghost use Rattle.std.specs.Prelude.{◌≡◌, [], ◌∷◌, map, IfOk};
+ghost use Rattle.std.specs.Prelude.{◌≡◌, [], ◌∷◌, map, IfOk, IfSome};
 ghost use Rattle.stream_commands.specs.WholeCommands.{add_list, trim_list, read_list, claim_list, autoclaim_list};
 
 use crate::tests::check;
 use redis_resp::ToRedisArgs;
 use std::alloc::{AllocError, Global};
-use std::test::Fail;
 use stream_commands::{
     AtLeastOne, xadd_options, xautoclaim_options, xclaim_options, xread_options, xtrim_options,
 };
@@ -67,8 +66,8 @@ fn claim_arguments(
     min_idle: usize,
     id: &str,
     options: &StreamClaimOptions,
-) -> Result<Vec<Vec<u8>>, Fail>
-    ensures { IfOk result (λ list. map (λ arg. arg.items) list.items ≡ claim_list (record {
+) -> Option<Vec<Vec<u8>>>
+    ensures { IfSome result (λ list. map (λ arg. arg.items) list.items ≡ claim_list (record {
       key = key.now;
       group = group.now;
       consumer = consumer.now;
@@ -78,8 +77,8 @@ fn claim_arguments(
     })) }
 {
     let ids = AtLeastOne::one(&id);
-    let command = xclaim_options(key, group, consumer, min_idle, ids, options)?;
-    Ok(command.to_redis_args(alloc)?)
+    let command = xclaim_options(key, group, consumer, min_idle, ids, options).ok()?;
+    command.to_redis_args(alloc).ok()
 }
 
 fn autoclaim_arguments(
@@ -90,8 +89,8 @@ fn autoclaim_arguments(
     min_idle: usize,
     start: &str,
     options: &StreamAutoClaimOptions,
-) -> Result<Vec<Vec<u8>>, Fail>
-    ensures { IfOk result (λ list. map (λ arg. arg.items) list.items ≡ autoclaim_list (record {
+) -> Option<Vec<Vec<u8>>>
+    ensures { IfSome result (λ list. map (λ arg. arg.items) list.items ≡ autoclaim_list (record {
       key = key.now;
       group = group.now;
       consumer = consumer.now;
@@ -100,8 +99,8 @@ fn autoclaim_arguments(
       options = options.now;
     })) }
 {
-    let command = xautoclaim_options(key, group, consumer, min_idle, start, options)?;
-    Ok(command.to_redis_args(alloc)?)
+    let command = xautoclaim_options(key, group, consumer, min_idle, start, options).ok()?;
+    command.to_redis_args(alloc).ok()
 }
 
 #[test]
@@ -131,19 +130,17 @@ fn reads_are_lists(rt: HostRuntime) {
 }
 
 #[test]
-fn claims_are_lists(rt: HostRuntime) -> Result<(), Fail> {
+fn claims_are_lists(rt: HostRuntime) {
     let options = StreamClaimOptions::default().with_force().retry(3);
-    let arguments = claim_arguments(rt.alloc(), "orders", "g", "d", 0, "3-0", &options)?;
+    let arguments = claim_arguments(rt.alloc(), "orders", "g", "d", 0, "3-0", &options);
     let line = "XCLAIM orders g d 0 3-0 RETRYCOUNT 3 FORCE";
-    check(&rt, &arguments, line);
-    Ok(())
+    check(&rt, &arguments.expect(&rt, "arguments"), line);
 }
 
 #[test]
-fn automatic_claims_are_lists(rt: HostRuntime) -> Result<(), Fail> {
+fn automatic_claims_are_lists(rt: HostRuntime) {
     let options = StreamAutoClaimOptions::default().count(10);
-    let arguments = autoclaim_arguments(rt.alloc(), "orders", "g", "d", 0, "0-0", &options)?;
+    let arguments = autoclaim_arguments(rt.alloc(), "orders", "g", "d", 0, "0-0", &options);
     let line = "XAUTOCLAIM orders g d 0 0-0 COUNT 10";
-    check(&rt, &arguments, line);
-    Ok(())
+    check(&rt, &arguments.expect(&rt, "arguments"), line);
 }

@@ -4,7 +4,6 @@ ghost use Rattle.std.specs.Prelude.{Bool, true, None, codes};
 use redis_resp::{FromRedisValue, ParsingError, Value};
 use std::alloc::{AllocError, Global};
 use std::process::Abort;
-use std::test::Fail;
 use test_notation::{PrintedForm, both_answers};
 
 /// A type with no record, whose two readings refuse a value with different errors.
@@ -40,16 +39,15 @@ fn check_told<T: FromRedisValue + PrintedForm>(
     rt: &(impl AllocGlobal + Abort),
     value: Value,
     told: &str,
-) -> Result<(), Fail> {
-    let line = both_answers::<T>(rt.alloc(), value)?;
+) {
+    let line = both_answers::<T>(rt.alloc(), value).expect(rt, "memory");
     assert!(rt; line.as_str() == told, "{line}, not {told}");
-    Ok(())
 }
 
 #[test]
-fn both_readings_are_told(rt: HostRuntime) -> Result<(), Fail> {
-    check_told::<Refused>(&rt, Value::Nil, "refused 1 owned, refused 2 lent")?;
-    check_told::<usize>(&rt, Value::Int(7), "7")?;
-    check_told::<usize>(&rt, Value::Nil, "refused 2")?;
-    check_told::<String>(&rt, Value::Nil, "refused 1")
+fn both_readings_are_told(rt: HostRuntime) {
+    check_told::<Refused>(&rt, Value::Nil, "refused 1 owned, refused 2 lent");
+    check_told::<usize>(&rt, Value::Int(7), "7");
+    check_told::<usize>(&rt, Value::Nil, "refused 2");
+    check_told::<String>(&rt, Value::Nil, "refused 1");
 }

@@ -3,6 +3,7 @@
 //!
 //! `tools/sweep-refused-memory` runs the test with `refused_memory` in its name with each request
 //! refused in turn.
+use crate::copied::Copied;
 use crate::tests::check_same;
 use indexmap::IndexMap;
 use redis_resp::{FromRedisValue, ParsingError, RawBytes, Value};
@@ -123,142 +124,70 @@ fn check_an_entry(rt: &(impl AllocGlobal + Abort)) -> Result<(), ParsingError> {
     }
 }
 
-// Checks that the empty record of the type has this printed form, and that a copy of a record has the record's.
-// (One call a function: several in one cost many times as much to prove.)
-macro_rules! check_copies {
-    ($rt:expr, $record:ty, $empty:literal, $notation:literal, $text:literal) => {{
-        check_printed($rt, <$record>::empty($rt.alloc()), $empty)?;
-        check_copy!($rt, $record, $notation, $text)
-    }};
-}
-
-// Checks that a copy of the record has this printed form.
-macro_rules! check_copy {
-    ($rt:expr, $record:ty, $notation:literal, $text:literal) => {{
-        let record = record_of::<$record>($rt, $notation)?;
-        let copy = record.try_clone($rt.alloc());
-        drop(record);
-        check_printed($rt, copy, $text)
-    }};
-}
-
-fn check_copied_range(rt: &(impl AllocGlobal + Abort)) -> Result<(), ParsingError> {
-    check_copies!(
-        rt,
-        StreamRangeReply,
-        "-",
-        "Map[1-0: Array[f, v]]",
-        "1-0(f=v)"
-    )
-}
-
-fn check_copied_claim(rt: &(impl AllocGlobal + Abort)) -> Result<(), ParsingError> {
-    check_copies!(
-        rt,
-        StreamClaimReply,
-        "-",
-        "Map[1-0: Map[f: v, g: Int 2]]",
-        "1-0(f=v,g=2)"
-    )
-}
-
-fn check_copied_read(rt: &(impl AllocGlobal + Abort)) -> Result<(), ParsingError> {
-    check_copies!(
-        rt,
-        StreamReadReply,
-        "-",
-        "Map[s: Array[Array[1-0, Map[f: v], Int 5, Int 2]]]",
-        "s[1-0(f=v)@5#2]"
-    )
-}
-
-fn check_copied_autoclaim(rt: &(impl AllocGlobal + Abort)) -> Result<(), ParsingError> {
-    check_copies!(
-        rt,
-        StreamAutoClaimReply,
-        "next= claimed=[] deleted=[] invalid=false",
-        "Array[0-0, Array[Nil, 1-0], Array[2-0]]",
-        "next=0-0 claimed=[1-0()] deleted=[2-0] invalid=true"
-    )
+/// Checks that a copy of the record of this notation has this printed form.
+fn check_copy<T: FromRedisValue + PrintedForm + Copied>(
+    rt: &(impl AllocGlobal + Abort),
+    notation: &str,
+    text: &str,
+) -> Result<(), ParsingError> {
+    let record = record_of::<T>(rt, notation)?;
+    let copied = record.copied(rt.alloc());
+    drop(record);
+    check_printed(rt, copied, text)
 }
 
 fn check_copied_entries(rt: &(impl AllocGlobal + Abort)) -> Result<(), ParsingError> {
-    check_copied_range(rt)?;
-    check_copied_claim(rt)?;
-    check_copied_read(rt)?;
-    check_copied_autoclaim(rt)
+    let notation = "Map[1-0: Array[f, v]]";
+    check_copy::<StreamRangeReply>(rt, notation, "1-0(f=v)")?;
+    let notation = "Map[1-0: Map[f: v, g: Int 2]]";
+    check_copy::<StreamClaimReply>(rt, notation, "1-0(f=v,g=2)")?;
+    let notation = "Map[s: Array[Array[1-0, Map[f: v], Int 5, Int 2]]]";
+    check_copy::<StreamReadReply>(rt, notation, "s[1-0(f=v)@5#2]")?;
+    let notation = "Array[0-0, Array[Nil, 1-0], Array[2-0]]";
+    let text = "next=0-0 claimed=[1-0()] deleted=[2-0] invalid=true";
+    check_copy::<StreamAutoClaimReply>(rt, notation, text)
 }
 
-fn check_copied_summary(rt: &(impl AllocGlobal + Abort)) -> Result<(), ParsingError> {
-    check_copy!(
-        rt,
-        StreamPendingReply,
-        "Array[Int 1, 1-0, 2-0, Array[Array[c, 1]]]",
-        "1 1-0 2-0 [c=1]"
-    )
-}
-
-fn check_copied_list(rt: &(impl AllocGlobal + Abort)) -> Result<(), ParsingError> {
-    check_copies!(
-        rt,
-        StreamPendingCountReply,
-        "-",
-        "Array[Array[1-0, c, Int 5, Int 2]]",
-        "1-0 c 5 2"
-    )
+fn check_empty_entries(rt: &(impl AllocGlobal + Abort)) -> Result<(), ParsingError> {
+    check_printed(rt, StreamRangeReply::empty(rt.alloc()), "-")?;
+    check_printed(rt, StreamClaimReply::empty(rt.alloc()), "-")?;
+    check_printed(rt, StreamReadReply::empty(rt.alloc()), "-")?;
+    let text = "next= claimed=[] deleted=[] invalid=false";
+    check_printed(rt, StreamAutoClaimReply::empty(rt.alloc()), text)
 }
 
 fn check_copied_pending(rt: &(impl AllocGlobal + Abort)) -> Result<(), ParsingError> {
     check_printed(rt, Ok(StreamPendingReply::default()), "empty")?;
-    check_copied_summary(rt)?;
-    check_copied_list(rt)
-}
-
-fn check_copied_stream(rt: &(impl AllocGlobal + Abort)) -> Result<(), ParsingError> {
-    check_copies!(
-        rt,
-        StreamInfoStreamReply,
-        "last= keys=0 nodes=0 groups=0 length=0 first=() final=()",
-        "Map[length: Int 1, first-entry: Array[1-0, Map[f: v]]]",
-        "last= keys=0 nodes=0 groups=0 length=1 first=1-0(f=v) final=()"
-    )
-}
-
-fn check_copied_idempotency(rt: &(impl AllocGlobal + Abort)) -> Result<(), ParsingError> {
-    check_copies!(
-        rt,
-        StreamInfoStreamReplyWithIdempotency,
-        "last= keys=0 nodes=0 groups=0 length=0 first=() final=() duration=0 maxsize=0 pids=0 tracked=0 added=0 duplicates=0",
-        "Map[pids-tracked: +3]",
-        "last= keys=0 nodes=0 groups=0 length=0 first=() final=() duration=0 maxsize=0 pids=3 tracked=0 added=0 duplicates=0"
-    )
-}
-
-fn check_copied_consumers(rt: &(impl AllocGlobal + Abort)) -> Result<(), ParsingError> {
-    check_copies!(
-        rt,
-        StreamInfoConsumersReply,
-        "-",
-        "Array[Map[name: c, pending: 4]]",
-        "c pending=4 idle=0"
-    )
-}
-
-fn check_copied_groups(rt: &(impl AllocGlobal + Abort)) -> Result<(), ParsingError> {
-    check_copies!(
-        rt,
-        StreamInfoGroupsReply,
-        "-",
-        "Array[Map[name: g, lag: 9]]",
-        "g consumers=0 pending=0 last= read=none lag=9"
-    )
+    let notation = "Array[Int 1, 1-0, 2-0, Array[Array[c, 1]]]";
+    check_copy::<StreamPendingReply>(rt, notation, "1 1-0 2-0 [c=1]")?;
+    check_printed(rt, StreamPendingCountReply::empty(rt.alloc()), "-")?;
+    let notation = "Array[Array[1-0, c, Int 5, Int 2]]";
+    check_copy::<StreamPendingCountReply>(rt, notation, "1-0 c 5 2")
 }
 
 fn check_copied_information(rt: &(impl AllocGlobal + Abort)) -> Result<(), ParsingError> {
-    check_copied_stream(rt)?;
-    check_copied_idempotency(rt)?;
-    check_copied_consumers(rt)?;
-    check_copied_groups(rt)
+    let notation = "Map[length: Int 1, first-entry: Array[1-0, Map[f: v]]]";
+    let text = "last= keys=0 nodes=0 groups=0 length=1 first=1-0(f=v) final=()";
+    check_copy::<StreamInfoStreamReply>(rt, notation, text)?;
+    let text = "last= keys=0 nodes=0 groups=0 length=0 first=() final=() duration=0 maxsize=0 \
+                pids=3 tracked=0 added=0 duplicates=0";
+    check_copy::<StreamInfoStreamReplyWithIdempotency>(rt, "Map[pids-tracked: +3]", text)?;
+    let notation = "Array[Map[name: c, pending: 4]]";
+    let text = "c pending=4 idle=0";
+    check_copy::<StreamInfoConsumersReply>(rt, notation, text)?;
+    let text = "g consumers=0 pending=0 last= read=none lag=9";
+    check_copy::<StreamInfoGroupsReply>(rt, "Array[Map[name: g, lag: 9]]", text)
+}
+
+fn check_empty_information(rt: &(impl AllocGlobal + Abort)) -> Result<(), ParsingError> {
+    let text = "last= keys=0 nodes=0 groups=0 length=0 first=() final=()";
+    check_printed(rt, StreamInfoStreamReply::empty(rt.alloc()), text)?;
+    let text = "last= keys=0 nodes=0 groups=0 length=0 first=() final=() duration=0 maxsize=0 \
+                pids=0 tracked=0 added=0 duplicates=0";
+    let empty = StreamInfoStreamReplyWithIdempotency::empty(rt.alloc());
+    check_printed(rt, empty, text)?;
+    check_printed(rt, StreamInfoConsumersReply::empty(rt.alloc()), "-")?;
+    check_printed(rt, StreamInfoGroupsReply::empty(rt.alloc()), "-")
 }
 
 // Whether a copy of the empty part of a reply is empty.
@@ -310,65 +239,36 @@ const FULL: &str = "Map[length: 1, entries: Array[Array[1-0, Array[f, v, f, Int 
 
 fn check_full_information(rt: &(impl AllocGlobal + Abort)) -> Result<(), ParsingError> {
     check_read::<StreamInfoFullReply>(rt, FULL)?;
-    let record = record_of::<StreamInfoFullReply>(rt, FULL)?;
-    let copy = record.try_clone(rt.alloc());
-    drop(record);
-    check_printed(
-        rt,
-        copy,
-        "length=1 keys=0 nodes=0 last= deleted= added=none recorded= entries=[1-0(f=v,f=2)] \
-         groups=[g last= read=none lag=none count=0 pending=[1-0 c 5 2] \
-         consumers=[c seen=0 active=none count=0 pending=[1-0 5 2]]]",
-    )?;
-    check_printed(
-        rt,
-        StreamInfoFullReply::empty(rt.alloc()),
-        "length=0 keys=0 nodes=0 last= deleted= added=none recorded= entries=[] groups=[]",
-    )
+    let text = "length=1 keys=0 nodes=0 last= deleted= added=none recorded= entries=[1-0(f=v,f=2)] \
+                groups=[g last= read=none lag=none count=0 pending=[1-0 c 5 2] \
+                consumers=[c seen=0 active=none count=0 pending=[1-0 5 2]]]";
+    check_copy::<StreamInfoFullReply>(rt, FULL, text)?;
+    let text = "length=0 keys=0 nodes=0 last= deleted= added=none recorded= entries=[] groups=[]";
+    check_printed(rt, StreamInfoFullReply::empty(rt.alloc()), text)
 }
 
-// Checks the printed form of a copy of the empty part of a reply.
-macro_rules! check_empty {
-    ($rt:expr, $part:ty, $text:literal) => {{
-        let empty = <$part>::empty($rt.alloc())?;
-        check_printed($rt, empty.try_clone($rt.alloc()), $text)
-    }};
-}
-
-fn check_empty_entry(rt: &(impl AllocGlobal + Abort)) -> Result<(), ParsingError> {
-    check_empty!(rt, StreamInfoFullEntry, "()")
-}
-
-fn check_empty_pending(rt: &(impl AllocGlobal + Abort)) -> Result<(), ParsingError> {
-    check_empty!(rt, StreamInfoFullPending, "  0 0")
-}
-
-fn check_empty_share(rt: &(impl AllocGlobal + Abort)) -> Result<(), ParsingError> {
-    check_empty!(rt, StreamInfoConsumerPending, " 0 0")
-}
-
-fn check_empty_consumer(rt: &(impl AllocGlobal + Abort)) -> Result<(), ParsingError> {
-    check_empty!(
-        rt,
-        StreamInfoFullConsumer,
-        " seen=0 active=none count=0 pending=[]"
-    )
-}
-
-fn check_empty_group(rt: &(impl AllocGlobal + Abort)) -> Result<(), ParsingError> {
-    check_empty!(
-        rt,
-        StreamInfoFullGroup,
-        " last= read=none lag=none count=0 pending=[] consumers=[]"
-    )
+/// Checks the printed form of a copy of the empty part of a reply.
+fn check_part<T: PrintedForm + Copied>(
+    rt: &(impl AllocGlobal + Abort),
+    empty: Result<T, AllocError>,
+    text: &str,
+) -> Result<(), ParsingError> {
+    check_printed(rt, empty?.copied(rt.alloc()), text)
 }
 
 fn check_full_parts(rt: &(impl AllocGlobal + Abort)) -> Result<(), ParsingError> {
-    check_empty_entry(rt)?;
-    check_empty_pending(rt)?;
-    check_empty_share(rt)?;
-    check_empty_consumer(rt)?;
-    check_empty_group(rt)
+    let empty = StreamInfoFullEntry::empty(rt.alloc());
+    check_part(rt, empty, "()")?;
+    let empty = StreamInfoFullPending::empty(rt.alloc());
+    check_part(rt, empty, "  0 0")?;
+    let empty = StreamInfoConsumerPending::empty(rt.alloc());
+    check_part(rt, empty, " 0 0")?;
+    let empty = StreamInfoFullConsumer::empty(rt.alloc());
+    let text = " seen=0 active=none count=0 pending=[]";
+    check_part(rt, empty, text)?;
+    let empty = StreamInfoFullGroup::empty(rt.alloc());
+    let text = " last= read=none lag=none count=0 pending=[] consumers=[]";
+    check_part(rt, empty, text)
 }
 
 fn check_all(rt: &(impl AllocGlobal + Abort)) -> Result<(), ParsingError> {
@@ -376,8 +276,10 @@ fn check_all(rt: &(impl AllocGlobal + Abort)) -> Result<(), ParsingError> {
     check_replies(rt)?;
     check_an_entry(rt)?;
     check_copied_entries(rt)?;
+    check_empty_entries(rt)?;
     check_copied_pending(rt)?;
     check_copied_information(rt)?;
+    check_empty_information(rt)?;
     check_copied_parts(rt)?;
     check_full_information(rt)?;
     check_full_parts(rt)

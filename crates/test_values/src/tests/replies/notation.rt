@@ -1,38 +1,29 @@
 //! Texts in the notation that hold a tab or a line feed, the text of the error that memory ran out, and
 //! equality of refusals. The program `test_cases` has the texts of one line.
-use crate::tests::check_same;
-use std::test::Fail;
+use std::process::Abort;
 use test_notation::laws::equal_notation_errors;
 use test_notation::{NotationError, read_value};
 
-#[test]
-fn tabs_are_blanks(rt: HostRuntime) -> Result<(), Fail> {
-    let set = read_value(rt.alloc(), "\tSet [ ] ")?;
-    check_same(&rt, format!(in rt.alloc(); "{set:?}")?.as_str(), "Set([])");
-    let two = read_value(rt.alloc(), " \t+2 ")?;
-    check_same(
-        &rt,
-        format!(in rt.alloc(); "{two:?}")?.as_str(),
-        "BulkString([43, 50])",
-    );
-    Ok(())
+/// Checks that `Debug` prints the value of the notation like this.
+fn check_value(rt: &(impl AllocGlobal + Abort), notation: &str, shown: &str) {
+    let value = read_value(rt.alloc(), notation).expect(rt, "a value");
+    let told = format!(in rt.alloc(); "{value:?}").expect(rt, "memory");
+    assert!(rt; told.as_str() == shown, "{told}, not {shown}");
 }
 
 #[test]
-fn a_line_feed_is_no_blank(rt: HostRuntime) {
+fn tabs_are_blanks_and_a_line_feed_is_none(rt: HostRuntime) {
+    check_value(&rt, "\tSet [ ] ", "Set([])");
+    check_value(&rt, " \t+2 ", "BulkString([43, 50])");
     let refused = read_value(rt.alloc(), "\n");
     assert!(rt; matches!(refused, Err(NotationError::NoWord)));
 }
 
 #[test]
-fn that_memory_ran_out_is_printed(rt: HostRuntime) -> Result<(), Fail> {
-    let error = NotationError::Memory;
-    check_same(
-        &rt,
-        format!(in rt.alloc(); "{error}")?.as_str(),
-        "out of memory",
-    );
-    Ok(())
+fn that_memory_ran_out_is_printed(rt: HostRuntime) {
+    let error = NotationError::Memory.to_string(rt.alloc());
+    let told = error.expect(&rt, "memory");
+    assert!(rt; told.as_str() == "out of memory");
 }
 
 #[test]

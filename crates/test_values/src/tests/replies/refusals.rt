@@ -2,16 +2,14 @@
 //! refusals, as a caller can prove it.
 use crate::tests::check_same;
 use redis_resp::{ParsingError, equal_parsing_errors};
-use std::test::Fail;
 use test_notation::PrintedForm;
 
 #[test]
-fn that_memory_ran_out_is_printed(rt: HostRuntime) -> Result<(), Fail> {
+fn that_memory_ran_out_is_printed(rt: HostRuntime) {
     let error = ParsingError::Memory;
-    let number = error.printed(rt.alloc())?;
-    let text = format!(in rt.alloc(); "{number} {error:?}: {error}")?;
+    let number = error.printed(rt.alloc()).expect(&rt, "memory");
+    let text = format!(in rt.alloc(); "{number} {error:?}: {error}").expect(&rt, "memory");
     check_same(&rt, text.as_str(), "refused 18 Memory: out of memory");
-    Ok(())
 }
 
 #[test]

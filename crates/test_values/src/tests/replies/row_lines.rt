@@ -2,7 +2,6 @@ use crate::tests::check_same;
 use std::alloc::{AllocError, Global};
 use std::io::{self, ErrorKind, Write};
 use std::process::Abort;
-use std::test::Fail;
 use test_notation::row_lines::{PrintError, print_rows};
 use test_notation::vectors::Row;
 
@@ -28,21 +27,20 @@ fn check_lines(
     texts: &[(&str, &str)],
     all_same: bool,
     lines: &str,
-) -> Result<(), Fail> {
-    let rows = rows_of(rt.alloc(), texts)?;
+) {
+    let rows = rows_of(rt.alloc(), texts).expect(rt, "memory");
     let mut written = Vec::new(rt.alloc());
     check_same(rt, print_rows(&rows, &mut written), Ok(all_same));
     check_same(rt, written.as_slice(), lines.as_bytes());
-    Ok(())
 }
 
 #[test]
-fn a_row_that_differs_says_so(rt: HostRuntime) -> Result<(), Fail> {
-    check_lines(&rt, &[("a", "b")], false, "v01 a differs from b\n")?;
-    check_lines(&rt, &[("a", "a")], true, "v01 a\n")?;
-    check_lines(&rt, &[], true, "")?;
+fn a_row_that_differs_says_so(rt: HostRuntime) {
+    check_lines(&rt, &[("a", "b")], false, "v01 a differs from b\n");
+    check_lines(&rt, &[("a", "a")], true, "v01 a\n");
+    check_lines(&rt, &[], true, "");
     let two = "v01 x differs from y\nv01 \n";
-    check_lines(&rt, &[("x", "y"), ("", "")], false, two)
+    check_lines(&rt, &[("x", "y"), ("", "")], false, two);
 }
 
 /// A writer that fails at each write, as a closed pipe does.
@@ -76,16 +74,12 @@ impl Write for Bounded {
 }
 
 #[test]
-fn a_writer_that_fails_is_told(rt: HostRuntime) -> Result<(), Fail> {
-    let rows = rows_of(rt.alloc(), &[("a", "a")])?;
+fn a_writer_that_fails_is_told(rt: HostRuntime) {
+    let rows = rows_of(rt.alloc(), &[("a", "a")]).expect(&rt, "memory");
     check_same(&rt, print_rows(&rows, &mut Closed), Err(PrintError::Write));
     for room in 0..6 {
-        assert_eq!(rt;
-            print_rows(&rows, &mut Bounded(room)),
-            Err(PrintError::Write),
-            "room {room}"
-        );
+        let answer = print_rows(&rows, &mut Bounded(room));
+        assert!(rt; answer == Err(PrintError::Write), "room {room}");
     }
     check_same(&rt, print_rows(&rows, &mut Bounded(6)), Ok(true));
-    Ok(())
 }

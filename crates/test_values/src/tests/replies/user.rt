@@ -15,7 +15,6 @@ use redis_resp::{
 use redis_streams::{StreamId, StreamRangeReply};
 use std::alloc::Global;
 use std::process::Abort;
-use std::test::Fail;
 use stream_options::StreamReadOptions;
 use test_notation::read_value;
 
@@ -104,11 +103,10 @@ const FLAGS: [(&str, &str); 10] = [
 ];
 
 #[test]
-fn texts_of_each_kind_are_read_as_flags(rt: HostRuntime) -> Result<(), Fail> {
+fn texts_of_each_kind_are_read_as_flags(rt: HostRuntime) {
     for (notation, shown) in &FLAGS {
-        check_value::<Flag>(&rt, notation, shown)?;
+        check_value::<Flag>(&rt, notation, shown);
     }
-    Ok(())
 }
 
 /// Values, and the result of reading each as a list of flags.
@@ -124,71 +122,66 @@ const LISTS: [(&str, &str); 5] = [
 ];
 
 #[test]
-fn lists_of_flags_are_read(rt: HostRuntime) -> Result<(), Fail> {
+fn lists_of_flags_are_read(rt: HostRuntime) {
     for (notation, shown) in &LISTS {
-        check_value::<Vec<Flag>>(&rt, notation, shown)?;
+        check_value::<Vec<Flag>>(&rt, notation, shown);
     }
-    Ok(())
 }
 
 #[test]
-fn flags_that_may_be_missing_are_read(rt: HostRuntime) -> Result<(), Fail> {
-    check_value::<Option<Flag>>(&rt, "Nil", "Ok(None)")?;
-    check_value::<Option<Flag>>(&rt, "no", "Ok(Some(Flag(false)))")?;
-    check_value::<Option<Flag>>(&rt, "No", "Err(NotText)")
-}
-
-#[test]
-fn tables_of_flags_are_read(rt: HostRuntime) -> Result<(), Fail> {
+fn options_and_tables_of_flags_are_read(rt: HostRuntime) {
+    check_value::<Option<Flag>>(&rt, "Nil", "Ok(None)");
+    check_value::<Option<Flag>>(&rt, "no", "Ok(Some(Flag(false)))");
+    check_value::<Option<Flag>>(&rt, "No", "Err(NotText)");
     let shown = "Ok({\"a\": Flag(true), \"b\": Flag(false)})";
-    check_value::<IndexMap<String, Flag>>(&rt, "Map[a: yes, b: no]", shown)
+    check_value::<IndexMap<String, Flag>>(&rt, "Map[a: yes, b: no]", shown);
+}
+
+/// The field of this name.
+fn field<T: FromRedisValue>(
+    rt: &(impl AllocGlobal + Abort),
+    entry: &StreamId,
+    name: &str,
+) -> Option<T> {
+    entry.get::<T>(rt.alloc(), name).expect(rt, "memory")
 }
 
 /// Checks the flags of the entry with the fields `f`, `yes`; `g`, `on`; `n`, `7`; and `e`, which is nil.
-fn check_flags(rt: &(impl AllocGlobal + Abort), entry: &StreamId) -> Result<(), Fail> {
-    let flag = entry.get::<Flag>(rt.alloc(), "f")?;
+fn check_flags(rt: &(impl AllocGlobal + Abort), entry: &StreamId) {
+    let flag = field::<Flag>(rt, entry, "f");
     assert!(rt; matches!(flag, Some(Flag(true))));
-    assert!(rt; entry.get::<Flag>(rt.alloc(), "g")?.is_none());
-    assert!(rt; entry.get::<Flag>(rt.alloc(), "n")?.is_none());
-    assert!(rt; entry.get::<Flag>(rt.alloc(), "h")?.is_none());
-    Ok(())
+    for name in ["g", "n", "h"] {
+        assert!(rt; field::<Flag>(rt, entry, name).is_none(), "{name}");
+    }
 }
 
 /// Checks the fields of the same entry, read as other types.
-fn check_others(rt: &(impl AllocGlobal + Abort), entry: &StreamId) -> Result<(), Fail> {
-    check_same(rt, entry.get::<u16>(rt.alloc(), "n")?, Some(7));
-    check_same(rt, entry.get::<u16>(rt.alloc(), "h")?, None);
-    assert!(rt; entry.get::<Vec<Value>>(rt.alloc(), "n")?.is_none());
-    let none = entry.get::<Option<String>>(rt.alloc(), "e")?;
+fn check_others(rt: &(impl AllocGlobal + Abort), entry: &StreamId) {
+    check_same(rt, field::<u16>(rt, entry, "n"), Some(7));
+    check_same(rt, field::<u16>(rt, entry, "h"), None);
+    assert!(rt; field::<Vec<Value>>(rt, entry, "n").is_none());
+    let none = field::<Option<String>>(rt, entry, "e");
     assert!(rt; matches!(none, Some(None)));
-    Ok(())
 }
 
 #[test]
-fn fields_are_read_as_flags(rt: HostRuntime) -> Result<(), Fail> {
+fn fields_are_read_as_flags(rt: HostRuntime) {
     let notation = "Array[Array[1-0, Array[f, yes, g, on, n, 7, e, Nil]]]";
-    let value = read_value(rt.alloc(), notation)?;
-    let range = from_redis_value::<StreamRangeReply>(rt.alloc(), value)?;
+    let value = read_value(rt.alloc(), notation).expect(&rt, "a value");
+    let range = from_redis_value::<StreamRangeReply>(rt.alloc(), value).expect(&rt, "a range");
     check_same(&rt, range.ids.len(), 1);
     for entry in &range.ids {
-        check_flags(&rt, entry)?;
-        check_others(&rt, entry)?;
+        check_flags(&rt, entry);
+        check_others(&rt, entry);
     }
-    Ok(())
 }
 
 #[test]
-fn flags_are_written(rt: HostRuntime) -> Result<(), Fail> {
-    let flags = vec![in rt.alloc(); Flag(true), Flag(false)]?;
-    check(&rt, &flags, "yes no");
+fn flags_are_written(rt: HostRuntime) {
+    let flags = vec![in rt.alloc(); Flag(true), Flag(false)];
+    check(&rt, &flags.expect(&rt, "memory"), "yes no");
     check(&rt, &Some(Flag(false)), "no");
     check(&rt, &&Flag(true), "yes");
-    Ok(())
-}
-
-#[test]
-fn a_flag_names_a_consumer(rt: HostRuntime) -> Result<(), Fail> {
-    let options = StreamReadOptions::default().group(rt.alloc(), 7u64, Flag(true))?;
-    check(&rt, &options, "GROUP 7 yes");
-    Ok(())
+    let options = StreamReadOptions::default().group(rt.alloc(), 7u64, Flag(true));
+    check(&rt, &options.expect(&rt, "memory"), "GROUP 7 yes");
 }

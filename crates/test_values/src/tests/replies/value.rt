@@ -1,7 +1,6 @@
 //! Values: which of them are equal, and the default value.
 use redis_resp::Value;
 use std::process::Abort;
-use std::test::Fail;
 use test_notation::read_value;
 
 /// Values of each kind, no two of them equal.
@@ -26,24 +25,18 @@ const VALUES: [&str; 17] = [
 ];
 
 /// Checks that the two values are equal exactly if their notations are the same.
-fn check_equality(rt: &(impl AllocGlobal + Abort), one: &str, other: &str) -> Result<(), Fail> {
-    let first = read_value(rt.alloc(), one)?;
-    let second = read_value(rt.alloc(), other)?;
+fn check_equality(rt: &(impl AllocGlobal + Abort), one: &str, other: &str) {
+    let first = read_value(rt.alloc(), one).expect(rt, "a value");
+    let second = read_value(rt.alloc(), other).expect(rt, "a value");
     assert!(rt; (first == second) == (one == other), "{one} and {other}");
-    Ok(())
 }
 
 #[test]
-fn no_two_of_these_values_are_equal(rt: HostRuntime) -> Result<(), Fail> {
+fn no_two_of_these_values_are_equal(rt: HostRuntime) {
     for one in &VALUES {
         for other in &VALUES {
-            check_equality(&rt, one, other)?;
+            check_equality(&rt, one, other);
         }
     }
-    Ok(())
-}
-
-#[test]
-fn the_default_value_is_nil(rt: HostRuntime) {
     assert!(rt; Value::default() == Value::Nil);
 }
