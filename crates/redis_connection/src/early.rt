@@ -10,7 +10,8 @@ use std::io::{ErrorKind, Write};
 /// A writer that may send bytes before they are written.
 pub trait WriteEarly: Write {
     /// Sends the first of these bytes, as many as one write takes. They are written only by the next write, which has
-    /// to begin with them. A failure is that of a later write.
+    /// to begin with them. Nothing is sent if bytes that were sent early are not written yet, or if the write fails.
+    /// That error is not returned, and the next write sends these bytes.
     fn write_early(&mut self, bytes: &[u8])
         ensures { Keeps (Self.contents self.old) (Self.contents self.new) };
 }

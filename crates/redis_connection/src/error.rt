@@ -9,7 +9,7 @@ use std::alloc::{AllocError, AllocFailed};
 use std::io;
 use thiserror::Error;
 
-/// Why nothing was sent or received.
+/// Why a command was not sent whole, or no reply was received.
 #[derive(Debug, Drop, Error)]
 pub enum ConnectionError {
     /// Out of memory. The call may be repeated.
@@ -97,7 +97,7 @@ pub enum AskError {
     /// The reply has no record of the requested type, or an allocation failed.
     #[error("{0}")]
     Parsing(ParsingError),
-    /// A push message was received, which is no reply to a command.
+    /// The only errors of the reply are in attributes.
     #[error("the reply is not of this command")]
     NotAnAnswer,
 }

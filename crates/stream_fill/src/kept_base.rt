@@ -1,7 +1,7 @@
 //! The base of records that are added after the entries of a stream. The base is stored in a file.
 //!
-//! A first run takes the last id of the stream as the base. It writes the base to the file, and syncs the file,
-//! before it adds records. Therefore a later run finds the same base, and continues.
+//! A first run takes the first number of the stream's last id as the base. It writes the base to the file, and
+//! syncs the file, before it adds records. Therefore a later run finds the same base, and continues.
 ghost use Rattle.std.specs.Prelude.{◌≡◌, ◌<◌, ◌^◌, ℕ, Some, decimal, IfErr, IfOk, IfSome, OnOk};
 ghost use Rattle.worker_journal.specs.Device.{Only};
 ghost use Rattle.stream_fill.specs.Base.{BeginsWithNumber, FindsBase, HasNoBase, IsOfFile, IsUnkept, IsUnread, Keeps, base_line};

@@ -26,7 +26,7 @@ pub enum Form {
     Text(Vec<u8>),
 }
 
-/// A file in which each line is a record. Lines that are appended after the file was opened are not read.
+/// A file in which each line is a record. Lines that are appended after they were counted are not read.
 #[derive(Drop)]
 pub struct Lines<F: ByteFile + Drop> {
     reader: LineReader<F>,

@@ -12,8 +12,9 @@
 //! A batch has `--batch` records, 1,000 by default. With `--wait REPLICAS MS` each batch waits for REPLICAS
 //! replicas, at most MS milliseconds.
 //!
-//! The program stores nothing on disk. It reads from the server how many of the lines are added, and continues
-//! after them. Therefore after any failure call the program again with the same arguments.
+//! The program stores nothing on disk, but with `--onto` the base in FILE.onto. It reads from the server how many
+//! of the lines are added, and continues after them. Therefore after any failure call the program again with the
+//! same arguments.
 //!
 //! At the end the program prints its counts on standard error. The exit status is 0 if all lines are added, and
 //! 2 if an argument is invalid. Otherwise it is 1, and the reason is printed. A last line without a line end is

@@ -1,5 +1,5 @@
 //! The commands of the next batch, made while a batch is on its way.
-ghost use Rattle.std.specs.Prelude.{◌≡◌, ◌⊎◌, ◌++◌, [], ℕ, IfSome, List, Option, false};
+ghost use Rattle.std.specs.Prelude.{◌≡◌, ◌⊎◌, ◌++◌, [], ℕ, IfSome, List, Option, false, true};
 ghost use Rattle.std.specs.Option.{ForSome};
 ghost use Rattle.worker_producer.specs.Ahead.{IsPrepared, exec_bytes};
 ghost use Rattle.worker_producer.specs.Machine.{Asks, standing_of};
@@ -45,10 +45,12 @@ fn cut_end<'a>(bytes: &'a [u8], end: &[u8]) -> &'a [u8]
     }
 }
 
-/// Returns the bytes to send early: those of the batch that was prepared without EXEC, or none.
+/// Returns the bytes to send early: those of the prepared batch but for its EXEC, or none.
 pub(crate) fn choose_early(ahead: &Option<Prepared>, is_early: bool) -> &[u8]
     ensures none { is_early ≡ false → result.now ≡ [] }
     ensures only { (result.now ≡ []) ⊎ ForSome ahead.now (λ prepared. prepared.bytes.items ≡ result.now ++ exec_bytes) }
+    ensures all { is_early ≡ true → ForSome ahead.now (λ prepared. (front : List ℕ)
+        → prepared.bytes.items ≡ front ++ exec_bytes → result.now ≡ front) }
 {
     match ahead {
         Some(prepared) if is_early => prepared.unexecuted(),
@@ -57,8 +59,8 @@ pub(crate) fn choose_early(ahead: &Option<Prepared>, is_early: bool) -> &[u8]
 }
 
 impl Producer {
-    /// Prepares the batch after the one that is on its way. It returns `None` if no batch is, or if the records could
-    /// not be read.
+    /// Prepares the batch after the one that is on its way. It returns `None` if no batch is, or if `request` fails: the
+    /// next round then requests it again.
     pub(crate) fn prepare_next<S: Source>(
         &mut self,
         alloc: Global,

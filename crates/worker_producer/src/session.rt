@@ -202,7 +202,7 @@ impl Producer {
         }
     }
 
-    /// Makes one round. An error leaves the producer as it is.
+    /// Makes one round. After an error the producer may be in the middle of it: the caller disconnects it.
     fn try_round<S: Source, R: Read + Drop, W: Write + Drop>(
         &mut self,
         alloc: Global,
@@ -227,7 +227,8 @@ impl Producer {
         Ok(asked)
     }
 
-    /// Makes one round of `round_ahead`. An error leaves the producer as it is.
+    /// Makes one round of `round_ahead`. After an error the producer may be in the middle of it: the caller disconnects
+    /// it.
     fn try_round_ahead<S: Source, R: Read + Drop, W: WriteEarly + Drop>(
         &mut self,
         alloc: Global,

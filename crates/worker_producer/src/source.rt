@@ -30,8 +30,8 @@ pub trait Source {
         ensures most { IfOk result (λ rs. length rs.items ≤ most) }
         ensures same { records self.new ≡ records self.old };
 
-    /// Announces the next `read`. It is called while the records before these are on the way, so that a source can read
-    /// ahead; it need not do anything.
+    /// Announces the next `read`. `Producer::round` calls it while the records before these are on the way, so that a
+    /// source can read ahead; it need not do anything. `fill` calls `read` itself at that time.
     fn read_ahead(&mut self, alloc: Global, behind: u64, most: usize)
         ensures { records self.new ≡ records self.old };
 }

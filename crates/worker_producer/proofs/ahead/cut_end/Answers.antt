@@ -1,4 +1,4 @@
-use Rattle.std.proofs.Common.{◌++◌, inr, List, ℕ, None, Some}
+use Rattle.std.proofs.Common.{inr, None, Some}
 use Rattle.std.proofs.lemmas.Bool.Decides.{Decides-eqb}
 use Rattle.std.proofs.lemmas.Slice.Eq.{strip_suffix_is}
 use Rattle.worker_producer.proofs.AheadLemmas.{same_front}
