@@ -1,0 +1,61 @@
+//! Bytes that are sent early, over a connection to a server in memory.
+use crate::check_same;
+use redis_connection::{EarlyWriter, WriteEarly};
+use server_commands::{Loopback, LoopbackReader, LoopbackWriter, Server};
+use std::alloc::Global;
+use std::io;
+use std::io::{ErrorKind, Read, Write};
+use std::test::Fail;
+
+/// A writer that takes three bytes at most at each write, and sends what it took when it is flushed.
+#[derive(Drop)]
+struct Slow {
+    held: Vec<u8>,
+    writer: LoopbackWriter,
+}
+
+impl Write for Slow {
+    fn write(&mut self, bytes: &[u8]) -> io::Result<usize> {
+        let taken = bytes.len().min(3);
+        self.held.extend_from_slice(&bytes[..taken])?;
+        Ok(taken)
+    }
+
+    fn flush(&mut self) -> io::Result<()> {
+        self.writer.write_all(self.held.as_slice())?;
+        self.held.clear();
+        Ok(())
+    }
+}
+
+/// Returns both ends of a connection to a server of its own.
+fn connect(alloc: Global) -> Result<(LoopbackReader, EarlyWriter<Slow>), Fail> {
+    let (reader, writer) = Loopback::new(alloc, Server::new(alloc))?.connect()?;
+    let held = Vec::new(alloc);
+    Ok((reader, EarlyWriter::new(alloc, Slow { held, writer })))
+}
+
+#[test]
+fn bytes_sent_early_are_not_sent_again(rt: HostRuntime) -> Result<(), Fail> {
+    let (mut reader, mut writer) = connect(rt.alloc())?;
+    writer.write_early(b"PING\r\nPING\r\n");
+    writer.write_early(b"PING\r\n");
+    writer.write_all(b"PING\r\nPING\r\n")?;
+    writer.flush()?;
+    let mut room = [0u8; 64];
+    check_same(&rt, reader.read(&mut room)?, 14);
+    check_same(&rt, &room[..14], b"+PONG\r\n+PONG\r\n".as_slice());
+    Ok(())
+}
+
+#[test]
+fn other_bytes_than_those_sent_early_are_refused(rt: HostRuntime) -> Result<(), Fail> {
+    let (_reader, mut writer) = connect(rt.alloc())?;
+    writer.write_early(b"PING\r\n");
+    let Err(error) = writer.write(b"PONG\r\n") else {
+        return Err(Fail::new("other bytes were written"));
+    };
+    check_same(&rt, error.kind(), ErrorKind::InvalidInput);
+    check_same(&rt, writer.write(b"PING\r\n")?, 3);
+    Ok(())
+}
