@@ -19,7 +19,7 @@ class Bridge:
     def __init__(self, server: socket.socket, silence: float, timeout: float) -> None:
         set_limits(server, 0, timeout)
         server.setblocking(False)
-        self.server = server
+        self.server, self.timeout = server, timeout
         self.inner, self.outer = socket.socketpair()
         set_limits(self.outer, silence, timeout)
         self.inner.setblocking(False)
@@ -32,15 +32,27 @@ class Bridge:
         return (time.monotonic() - self.last_came) * 1000, self.received, self.sent
 
     def run(self) -> None:
-        """Copies until the program has ended and what it sent is out, or the server has closed the connection."""
+        """Copies until the program has ended and what it sent is out, or the server has closed the connection. If the
+        program has ended, it gives up a server that took nothing for `timeout` seconds."""
+        moved = time.monotonic()
         while (self.is_open or self.to_server) and not self.is_over:
-            if not self._step():
+            if self._step():
+                moved = time.monotonic()
+            elif time.monotonic() - moved >= self.timeout and self._has_ended():
+                return
+            else:
                 self._wait()
 
     def stop(self) -> None:
         """Ends the input of the program."""
         with contextlib.suppress(OSError):
             self.inner.shutdown(socket.SHUT_WR)
+
+    def _has_ended(self) -> bool:
+        """Returns whether the program has closed its end, even if what it sent is not read yet."""
+        poll = select.poll()
+        poll.register(self.inner, 0)
+        return any(event & select.POLLHUP for _, event in poll.poll(0))
 
     def _wait(self) -> None:
         reading = [] if self.to_program else [self.server]
@@ -67,7 +79,9 @@ class Bridge:
     def _read_server(self) -> bytes:
         piece = _read(self.server)
         if piece == b"":
-            self.stop()
+            # (the program still reads what it was sent, and its writes fail)
+            with contextlib.suppress(OSError):
+                self.inner.shutdown(socket.SHUT_RDWR)
             self.is_over = True
         elif piece:
             self.last_came = time.monotonic()
