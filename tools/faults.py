@@ -14,6 +14,7 @@ import time
 from shared import begin, below, join, resp
 
 UNCUT = None, math.inf
+EXEC = resp.encode(["EXEC"])
 # The words of a server that has its log on the disk before it replies.
 LOGGED = ("--appendonly", "yes", "--appendfsync", "always")
 
@@ -160,20 +161,32 @@ class Link:
             return True
         self.is_cut = True
         if kind == "late":
-            self.held = piece[left:] + self.rest()
-        if kind == "unanswered":
+            other.sendall(piece[:left])
+            self.held = piece[left:]
+            while EXEC not in self.held and self.answer():
+                self.held += self.rest(0.05)
+            self.held += self.rest()
+        elif kind == "unanswered":
             self.far.sendall(piece + self.rest())
             select.select([self.far], [], [], 0.1)
         else:
             other.sendall(piece[:left])
         return False
 
-    def rest(self):
-        """What the program still writes, until it writes nothing for a while."""
+    def rest(self, quiet=0.2):
+        """What the program still writes, until it writes nothing for `quiet` seconds."""
         rest = b""
-        while select.select([self.near], [], [], 0.2)[0] and (piece := self.near.recv(1 << 16)):
+        while select.select([self.near], [], [], quiet)[0] and (piece := self.near.recv(1 << 16)):
             rest += piece
         return rest
+
+    def answer(self):
+        """Passes on what the server replied to the bytes before the cut, without which the program sends no EXEC;
+        whether there was any."""
+        if not select.select([self.far], [], [], 0.2)[0] or not (piece := self.far.recv(1 << 16)):
+            return False
+        self.near.sendall(piece)
+        return True
 
     def deliver(self):
         """The bytes that were held back come to the server, and its replies go nowhere."""
@@ -185,5 +198,5 @@ class Link:
             while not replies.endswith(b"+PONG\r\n") and (piece := self.far.recv(1 << 16)):
                 replies += piece
         self.far.close()
-        self.came_late = replies.endswith(b"+PONG\r\n") and resp.encode(["EXEC"]) in self.held
+        self.came_late = replies.endswith(b"+PONG\r\n") and EXEC in self.held
         self.added_late = self.came_late and re.search(rb"\r\n\d+-0\r\n", replies) is not None
