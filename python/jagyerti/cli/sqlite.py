@@ -18,9 +18,9 @@ ends it at once. Nothing is lost by that: the batch in hand comes again, and no 
 --dead N STREAM leaves entries that fit no row pending, and the others of their batch go on. Those that were delivered N
 times or more go to STREAM, where 'jagyerti dead' lists them.
 
-A stream with partitions over a Redis Cluster is for 'jagyerti drain' and 'jagyerti fill': there is no --cluster here.
+A stream with partitions over a Redis Cluster is for 'jagyerti run', 'drain' and 'fill': there is no --cluster here.
 
-exit status: as that of 'jagyerti drain'.
+exit status: as that of 'jagyerti drain', but never 5.
 
 example: jagyerti sqlite redis://127.0.0.1:6379 orders packers ann orders.db --from 0 --columns item:text,pieces:integer
 """
@@ -40,5 +40,5 @@ def add_parser(subparsers: Any) -> None:
 def run(arguments: argparse.Namespace) -> int:
     """Runs it. Returns the exit status."""
     if arguments.cluster:
-        raise Failed("--cluster is for jagyerti drain and jagyerti fill", USAGE)
+        raise Failed("--cluster is for jagyerti run, drain and fill", USAGE)
     return run_program(arguments, "stream_sqlite", metrics=arguments.metrics, metrics_prefix="stream_sqlite")
