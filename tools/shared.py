@@ -225,6 +225,11 @@ def row(*cells: object) -> None:
     print(f"| {' | '.join(f'{cell:,}' if isinstance(cell, int) else str(cell) for cell in cells)} |", flush=True)
 
 
+def print_load() -> None:
+    """Prints how busy the machine was in the last minute, since figures of a busy one are lower."""
+    print(f"\nload {os.getloadavg()[0]:.1f} on {len(os.sched_getaffinity(0))} processors\n", flush=True)
+
+
 def head(*names: str) -> None:
     row(*names)
     print("|" + "---|" * len(names), flush=True)

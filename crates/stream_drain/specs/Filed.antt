@@ -41,9 +41,9 @@ IsFiled json id c = (fields : Pairs) × HasLine (line_in json (id, fields)) c
 abbrev pub AreThere : Bool → Known → List ℕ → Type 0
 AreThere json known c = (id : Id) → is_known known id ≡ true → IsFiled json id c
 
--- the law: Before a worker acknowledges an id, its entry has a line in any file that a crash can leave.
--- Otherwise the server reported that the entry was deleted. Such a file begins with the lines committed at that
--- time. With `--look-up` the ids known at first are in the file.
+-- the law: Before a worker acknowledges an id, each file that begins with the lines committed at that time has a
+-- line with this id. Otherwise the server reported that the entry was deleted. A crash leaves only such files, by
+-- `commit` of worker_journal. With `--look-up` the ids known at first are in the file.
 abbrev pub AcknowledgedIsFiled : Type 0
 AcknowledgedIsFiled = (settings : Settings) (json : Bool) (known : Known) (first : List ℕ) (w : Standing Written)
     (deleted : List Id) (c : List ℕ) → AreLines first → AreThere json known first

@@ -23,8 +23,9 @@ pub fn rounds_are_lived()
     ensures { RoundsAreLived }
 {}
 
-/// Before an id is acknowledged, its entry has a line in the file, or the server reported that it was deleted.
-/// The line remains in the file after any crash.
+/// Before an id is acknowledged, each file that begins with the committed lines has a line with this id. Otherwise
+/// the server reported that the entry was deleted. A crash leaves only such files, as `LineLog::commit` ensures.
+/// This is not about entries that `--dead` gives up.
 pub fn acknowledged_is_filed()
     ensures { AcknowledgedIsFiled }
 {}
