@@ -1,4 +1,4 @@
-/* A handler of jobs in C: cc -o pack pack.c; jagyerti run URL orders packers -- ./pack packed.txt */
+/* A handler of jobs in C: cc -o pack pack.c; jagyerti run URL orders packers --from 0 -- ./pack packed.txt */
 #include <stdio.h>
 #include <string.h>
 
@@ -11,5 +11,5 @@ int main(int count, char **words) {
         puts(is_written ? "done" : "later no item yet");
         fflush(stdout);
     }
-    return 1;
+    return packed == NULL || ferror(stdin);
 }

@@ -1,4 +1,4 @@
-// A handler of jobs in JavaScript: jagyerti run URL orders packers -- node pack.js packed.txt
+// A handler of jobs in JavaScript: jagyerti run URL orders packers --from 0 -- node pack.js packed.txt
 const fs = require("fs");
 const lines = require("readline").createInterface({ input: process.stdin });
 

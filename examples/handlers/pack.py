@@ -1,4 +1,4 @@
-"""A handler of jobs in Python: jagyerti run URL orders packers -- python3 pack.py packed.txt"""
+"""A handler of jobs in Python: jagyerti run URL orders packers --from 0 -- python3 pack.py packed.txt"""
 import sys
 
 from jagyerti import Job, Later, handler

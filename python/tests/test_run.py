@@ -331,7 +331,9 @@ class Run(Running):
                 self.assertLessEqual(len(file.readlines()), 15)
                 path = os.path.join(self.folder, name + ".txt")
                 script = [] if name == "pack.c" else [os.path.join(HANDLERS, name)]
-                said = self.said(self.of_command(*command, *script, path), 0)
+                words = [*command, *script, path]
+                try_without_job(Handling(words), "", self.fail)
+                said = self.said(self.of_command(*words), 0)
                 self.assertIn("done 2, batches 1, left pending 0", said)
                 with open(path, encoding="utf-8") as packed:
                     text = packed.read()

@@ -23,7 +23,7 @@ redis-cli's -u has it. It may end with ?protocol=3&name=NAME, as --protocol and 
 REDIS_URL is the server. REDISCLI_AUTH is the password and REDISCLI_USER the user's name, if the URL has none. A password
 of the command line is taken out of what 'ps' shows at once.
 
-example: jagyerti drain redis://127.0.0.1:6379 orders packers ann orders.txt --until-empty
+example: jagyerti drain redis://127.0.0.1:6379 orders archive ann orders.txt --from 0 --until-empty
 """
 
 

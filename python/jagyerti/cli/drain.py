@@ -40,7 +40,7 @@ exit status: 0 after --until-empty or one signal; 1 if the program failed, or th
 error, or has a line of the same id with other fields, after which nothing is started again; 128 + N if the signal N ended
 the program.
 
-example: jagyerti drain redis://127.0.0.1:6379 orders packers ann orders.txt --from 0 --retry forever
+example: jagyerti drain redis://127.0.0.1:6379 orders archive ann orders.txt --from 0 --retry forever
 """
 
 

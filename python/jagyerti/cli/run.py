@@ -53,10 +53,11 @@ SIGWINCH: one that takes it may reply 'stop' to the next line. Then all ends wit
 once; jobs that were in hand come again.
 
 exit status: 0 after --until-empty, 'stop' or a signal; 1 if, without --from, there is no such group; 2 if words are wrong;
-4 if COMMAND or its file is not there, or if it ends again and again. With --retry TIMES also 1 if the server is not there,
-takes no login or refuses a command, 3 if it said nothing for too long, and 128 + N if the signal N ended stream_run.
+4 if COMMAND or its file is not there, if it ends again and again, or with --dead if it fails without a job. With --retry
+TIMES also 1 if the server is not there, takes no login or refuses a command, 3 if it said nothing for too long, and
+128 + N if the signal N ended stream_run.
 
-example: jagyerti run redis://127.0.0.1:6379 orders packers -- python3 pack.py
+example: jagyerti run redis://127.0.0.1:6379 orders packers --from 0 -- python3 pack.py
 """
 
 
