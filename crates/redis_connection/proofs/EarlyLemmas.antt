@@ -1,5 +1,5 @@
--- What is written of bytes that were sent before.
-use Rattle.std.proofs.Common.{◌≡◌, refl, ◌∙◌, sym, ap, subst, ℕ, ◌-◌, List, [], ◌∷◌, ◌++◌, length, take, drop, Option, Some, None, Bool, true, false, arith}
+-- What is sent early, and what is written of bytes that were sent before.
+use Rattle.std.proofs.Common.{◌≡◌, refl, ◌∙◌, sym, ap, subst, ℕ, ◌-◌, ◌<◌, ◌⊎◌, inl, inr, ◌==◌, List, [], ◌∷◌, ◌++◌, length, length-take, take, drop, Option, Some, None, Bool, true, false, arith}
 use Rattle.std.proofs.Math.Seq.{drop-append_seam, take-append_seam, take-length}
 use Rattle.std.proofs.lemmas.List.{append_assoc, append-nil, length-append, take-append-drop}
 use Rattle.std.proofs.lemmas.Slice.Eq.{bytes_eq-Decides}
@@ -8,7 +8,41 @@ use Rattle.std.specs.Prelude.{Result, Ok, Err, if◌then◌else◌}
 use Rattle.std.specs.Result.{result_unwrap_or}
 use Rattle.std.specs.declared.io.Error.{Error}
 use Rattle.std.specs.Str.{bytes_eq}
-use Rattle.redis_connection.specs.Early.{before_end, written}
+use Rattle.std.specs.List.{starts_with}
+use Rattle.memchr.specs.Find.{FindsNeedle, NoneBefore}
+use Rattle.redis_connection.specs.Early.{IsQueued, before_end, exec_bytes, multi_bytes, written}
+
+-- ---- the commands before the first EXEC
+
+-- the first number of which P holds is one
+first_alike : (P : ℕ → Type 0) (j a b : ℕ) → NoneBefore P 0 j a × P a → NoneBefore P 0 j b × P b → a ≡ b
+first_alike P j a b x y =
+    let above : a < b → ⊥ = λ lt. y.0.before a (omega arith) lt x.1 in
+    let below : b < a → ⊥ = λ lt. x.0.before b (omega arith) lt y.1 in
+    grind (arith, above, below)
+
+pub queued_at : (bytes out : List ℕ) (n : ℕ) → starts_with (λ a b. a == b) bytes multi_bytes ≡ true → out ≡ take n bytes
+    → FindsNeedle bytes exec_bytes 0 (Some n) → IsQueued bytes out
+queued_at bytes out n begins is first =
+    let len : length out ≡ n = ap length is ∙ grind (arith, length-take, first.1.fits) in record {
+      begins = begins;
+      front = is ∙ ap (λ (k : ℕ). take k bytes) (sym len);
+      first = subst (λ (k : ℕ). FindsNeedle bytes exec_bytes 0 (Some k)) (sym len) first;
+    }
+
+pub queued_alike : (bytes out queued : List ℕ) (n : ℕ) → out ≡ take n bytes → FindsNeedle bytes exec_bytes 0 (Some n)
+    → IsQueued bytes queued → out ≡ queued
+queued_alike bytes out queued n is first q =
+    let same : n ≡ length queued = first_alike _ _ n (length queued) first q.first in
+    is ∙ (ap (λ (k : ℕ). take k bytes) same ∙ sym q.front)
+
+pub none_queued : (bytes queued : List ℕ) → FindsNeedle bytes exec_bytes 0 None → IsQueued bytes queued → ⊥
+none_queued bytes queued none q = none (length queued) (omega arith) q.first.0.high q.first.1
+
+pub some_queued : (bytes queued : List ℕ) → (queued ≡ []) ⊎ IsQueued bytes queued → (length queued ≡ 0 → ⊥)
+    → IsQueued bytes queued
+some_queued bytes queued (inl none) some = absurd (some (ap length none))
+some_queued bytes queued (inr is) some = is
 
 -- ---- a list and its end
 

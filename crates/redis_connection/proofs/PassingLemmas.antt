@@ -1,17 +1,17 @@
 -- Lemmas on push messages that are skipped.
 use Rattle.std.proofs.Common.{◌≡◌, ◌==◌, ℕ, zero, suc, Bool, true, false, List, [], ◌∷◌, length, take, drop}
-use Rattle.std.proofs.Common.{Option, Some, None, Result, Ok, Err, refl, sym, ◌∙◌, ap, subst, slice_get, slice_index, ℤ, ◌≤◌}
+use Rattle.std.proofs.Common.{Option, Some, None, Result, Ok, Err, refl, sym, ◌∙◌, ap, subst, slice_index, ℤ, ◌≤◌}
 use Rattle.std.proofs.lemmas.Bool.{eqb-true}
 use Rattle.std.specs.Prelude.{if◌then◌else◌, codes, nat_lt, ◌&&◌}
 use Rattle.std.specs.Str.{is_utf8, bytes_eq}
-use Rattle.redis_resp.specs.Tree.{Tree, int, bulk, simple, okay, boolean, nil}
+use Rattle.redis_resp.specs.Tree.{Tree}
 use Rattle.redis_wire.specs.Decimal.{is_double, is_integer}
 use Rattle.redis_wire.specs.Grammar.{IsReply, IsAnyReply, IsValue, IsOfKind, IsBlobBody, IsGroupBody, IsPushBody, Where, Then, IsLength}
 use Rattle.redis_wire.specs.Grammar.{IsPush}
 use Rattle.redis_wire.specs.Group.{group_answer, group_tree, no_group_answer, attribute_round, pairs_of}
 use Rattle.redis_wire.specs.Kind.{kind_of}
 use Rattle.redis_wire.specs.Reading.{Halt, ◌>>=◌}
-use Rattle.redis_wire.specs.Reply.{Answer, value, pushed, Answers, values, mixed}
+use Rattle.redis_wire.specs.Reply.{Answer, Answers, values, mixed}
 use Rattle.redis_wire.specs.Scalar.{line_answer, blob_answer, no_blob_answer, text_answer, int_answer, number_of}
 use Rattle.redis_wire.specs.Scalar.{boolean_answer, written_answer, verbatim_answer}
 use Rattle.redis_wire.specs.declared.kind.BlobKind.{BlobKind}
@@ -24,8 +24,8 @@ use Rattle.redis_wire.specs.declared.kind.LineKind.{LineKind}
 use Rattle.redis_wire.specs.declared.kind.LineKind.TheVariants as lines
 use Rattle.redis_wire.specs.declared.limits.Limits.{Limits}
 use Rattle.redis_connection.specs.Link.{Link, Receives, Stands, Waits, IsInPlace}
-use Rattle.redis_connection.specs.Passing.{IsMessage, BeginsAsMessage, one_more, PassesOne, Passes, ReceivesAnswer}
-use Rattle.redis_connection.specs.Passing.{AwaitsAnswer, AnswerStands, IsAnswerInPlace}
+use Rattle.redis_connection.specs.Passing.{IsMessage, BeginsAsMessage, one_more, Passes, ReceivesAnswer}
+use Rattle.redis_connection.specs.Passing.{AwaitsAnswer, IsAnswerInPlace}
 
 -- ---- a value is no push message
 

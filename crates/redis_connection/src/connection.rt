@@ -258,7 +258,7 @@ impl<R: Read + Drop, W: WriteEarly + Drop> Connection<R, W> {
 }
 
 /// Returns the first `len` bytes, or all of them if there are fewer.
-fn take_front(bytes: &[u8], len: usize) -> &[u8]
+pub(crate) fn take_front(bytes: &[u8], len: usize) -> &[u8]
     ensures { result.now ≡ take len bytes.now }
 {
     match bytes.split_at_checked(len) {

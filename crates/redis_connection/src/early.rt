@@ -1,23 +1,30 @@
 //! Bytes that are sent before they are written.
-ghost use Rattle.std.specs.Prelude.{◌≡◌, ◌⊎◌, ◌↔◌, [], ℕ, IsTrue, take};
+ghost use Rattle.std.specs.Prelude.{◌≡◌, ◌⊎◌, ◌↔◌, [], ℕ, List, IsTrue, take};
 ghost use Rattle.std.specs.Io.KnownBytes.{Keeps};
-ghost use Rattle.redis_connection.specs.Early.{written};
+ghost use Rattle.redis_connection.specs.Early.{IsQueued, written};
 
+use crate::connection::take_front;
+use memchr::memmem;
 use std::alloc::Global;
 use std::io;
 use std::io::{ErrorKind, Write};
 
+/// `MULTI` as bytes.
+const MULTI: &[u8] = b"*1\r\n$5\r\nMULTI\r\n";
+/// `EXEC` as bytes.
+const EXEC: &[u8] = b"*1\r\n$4\r\nEXEC\r\n";
+
 /// A writer that may send bytes before they are written.
 pub trait WriteEarly: Write {
-    /// Sends the first of these bytes, as many as one write takes. They are written only by the next write, which has
-    /// to begin with them. Nothing is sent if bytes that were sent early are not written yet, or if the write fails.
-    /// That error is not returned, and the next write sends these bytes.
+    /// Sends some of the first of these bytes, or none. They are written only by the next write, which has to begin with
+    /// them.
     fn write_early(&mut self, bytes: &[u8])
         ensures { Keeps (Self.contents self.old) (Self.contents self.new) };
 }
 
-/// A writer over another one. It sends bytes early, and does not send them again when they are written. The write of
-/// other bytes after that is the error `InvalidInput`.
+/// A writer over another one. It sends a transaction early, but for its `EXEC`, and does not send it again when it is
+/// written. So the server executes nothing that was not written. The write of other bytes after that is the error
+/// `InvalidInput`.
 #[derive(Drop)]
 pub struct EarlyWriter<W: Write + Drop> {
     inner: W,
@@ -63,20 +70,38 @@ impl<W: Write + Drop> Write for EarlyWriter<W> {
 }
 
 impl<W: Write + Drop> WriteEarly for EarlyWriter<W> {
+    /// Sends the commands of a transaction before its `EXEC`, as many bytes as one write takes. Nothing is sent of other
+    /// bytes, or if bytes that were sent early are not written yet, or if the write fails. That error is not returned, and
+    /// the next write sends these bytes.
     fn write_early(&mut self, bytes: &[u8])
         ensures written { Keeps (written self.old.early.items (W.contents self.old.inner))
             (written self.new.early.items (W.contents self.new.inner)) }
-        ensures first { (self.new.early.items ≡ self.old.early.items)
-            ⊎ ((n : ℕ) × (self.new.early.items ≡ take n bytes.now)) }
+        ensures queued { (self.new.early.items ≡ self.old.early.items) ⊎ ((queued : List ℕ) × (n : ℕ)
+            × IsQueued bytes.now queued × (self.new.early.items ≡ take n queued)) }
     {
-        if bytes.is_empty() || !self.early.is_empty() {
+        let queued = find_queued(bytes);
+        if queued.is_empty() || !self.early.is_empty() {
             return;
         }
-        let Ok(()) = self.early.extend_from_slice(bytes) else {
+        let Ok(()) = self.early.extend_from_slice(queued) else {
             return;
         };
-        let sent = self.inner.write(bytes).unwrap_or(0);
+        let sent = self.inner.write(queued).unwrap_or(0);
         self.early.truncate(sent);
+    }
+}
+
+/// Returns the commands of a transaction before its `EXEC`, or none if these bytes are no transaction.
+fn find_queued(bytes: &[u8]) -> &[u8]
+    ensures only { (result.now ≡ []) ⊎ IsQueued bytes.now result.now }
+    ensures all { (queued : List ℕ) → IsQueued bytes.now queued → result.now ≡ queued }
+{
+    if !bytes.starts_with(MULTI) {
+        return &[];
+    }
+    match memmem::find(bytes, EXEC) {
+        Some(len) => take_front(bytes, len),
+        None => &[],
     }
 }
 

@@ -1,4 +1,3 @@
-pub mod AheadLemmas
 pub mod KeptLemmas
 pub mod ReplyLemmas
 pub mod RequestLemmas

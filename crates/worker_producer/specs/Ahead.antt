@@ -1,7 +1,6 @@
 -- Commands that were prepared while a batch is on its way.
-use Rattle.std.specs.Prelude.{[], ◌∷◌, ℕ, List, Option, codes}
+use Rattle.std.specs.Prelude.{[], List, Option}
 use Rattle.model_server.specs.Once.Feed.{knows}
-use Rattle.redis_wire.specs.Packed.{command_bytes}
 use Rattle.worker_producer.specs.Machine.{Asks, stage_of}
 use Rattle.worker_producer.specs.Records.{Fields}
 use Rattle.worker_producer.specs.declared.ahead.Prepared.{Prepared}
@@ -11,7 +10,3 @@ use Rattle.worker_producer.specs.declared.settings.Settings.{Settings}
 abbrev pub IsPrepared : Settings → Option (List Fields) → Prepared → Type 0
 IsPrepared s all p = Asks s all [] p.bytes.items (record { stage = knows p.known; coming = 0 })
     (record { stage = stage_of p.stage; coming = p.coming }) p.asked
-
--- EXEC as bytes: the end of a batch
-abbrev pub exec_bytes : List ℕ
-exec_bytes = command_bytes (codes "EXEC" ∷ [])

@@ -1,7 +1,7 @@
 //! The commands of the next batch, made while a batch is on its way.
-ghost use Rattle.std.specs.Prelude.{◌≡◌, ◌⊎◌, ◌++◌, [], ℕ, IfSome, List, Option, false, true};
+ghost use Rattle.std.specs.Prelude.{◌≡◌, [], IfSome, List, None, Option, false, true};
 ghost use Rattle.std.specs.Option.{ForSome};
-ghost use Rattle.worker_producer.specs.Ahead.{IsPrepared, exec_bytes};
+ghost use Rattle.worker_producer.specs.Ahead.{IsPrepared};
 ghost use Rattle.worker_producer.specs.Machine.{Asks, standing_of};
 ghost use Rattle.worker_producer.specs.Records.{Fields};
 ghost use Rattle.model_server.specs.Once.Feed.{knows};
@@ -21,39 +21,14 @@ pub(crate) struct Prepared {
     coming: u64,
 }
 
-/// `EXEC` as bytes.
-const EXEC: &[u8] = b"*1\r\n$4\r\nEXEC\r\n";
-
-impl Prepared {
-    /// Returns the commands of a batch without EXEC. So the server executes none of them before EXEC is sent.
-    fn unexecuted(&self) -> &[u8]
-        ensures only { (result.now ≡ []) ⊎ (self.now.bytes.items ≡ result.now ++ exec_bytes) }
-        ensures all { (front : List ℕ) → self.now.bytes.items ≡ front ++ exec_bytes → result.now ≡ front }
-    {
-        cut_end(&self.bytes, EXEC)
-    }
-}
-
-/// Returns the bytes before `end`, or none if they do not end with it.
-fn cut_end<'a>(bytes: &'a [u8], end: &[u8]) -> &'a [u8]
-    ensures only { (result.now ≡ []) ⊎ (bytes.now ≡ result.now ++ end.now) }
-    ensures all { (front : List ℕ) → bytes.now ≡ front ++ end.now → result.now ≡ front }
-{
-    match bytes.strip_suffix(end) {
-        Some(front) => front,
-        None => &[],
-    }
-}
-
-/// Returns the bytes to send early: those of the prepared batch but for its EXEC, or none.
+/// Returns the prepared bytes if some of them may be sent early, and none otherwise.
 pub(crate) fn choose_early(ahead: &Option<Prepared>, is_early: bool) -> &[u8]
     ensures none { is_early ≡ false → result.now ≡ [] }
-    ensures only { (result.now ≡ []) ⊎ ForSome ahead.now (λ prepared. prepared.bytes.items ≡ result.now ++ exec_bytes) }
-    ensures all { is_early ≡ true → ForSome ahead.now (λ prepared. (front : List ℕ)
-        → prepared.bytes.items ≡ front ++ exec_bytes → result.now ≡ front) }
+    ensures unprepared { ahead.now ≡ None → result.now ≡ [] }
+    ensures all { is_early ≡ true → ForSome ahead.now (λ prepared. result.now ≡ prepared.bytes.items) }
 {
     match ahead {
-        Some(prepared) if is_early => prepared.unexecuted(),
+        Some(prepared) if is_early => &prepared.bytes,
         _ => &[],
     }
 }

@@ -1,4 +1,4 @@
-use Rattle.std.proofs.Common.{◌≡◌, ◌+◌, ◌++◌, ◌∙◌, ap, arith}
+use Rattle.std.proofs.Common.{◌+◌, ◌++◌, ◌∙◌, ap, arith}
 use Rattle.worker_producer.specs.Records.{fields_of}
 use Rattle.worker_producer.specs.Sentences.{head_of}
 use Rattle.worker_producer.proofs.RequestLemmas.{in_parts, written}
