@@ -466,12 +466,22 @@ fn commit_batches(alloc: Global, batches: Value) -> Result<String> {
     };
     let mut log = LineLog::open(alloc, file)?;
     let mut said = String::new(alloc);
-    for batch in &batches {
-        said.push_str(commit(&mut log, batch)?)?;
-    }
+    commit_all(&mut log, &batches, &mut said)?;
     let file = log.into_file();
     let bytes = str::from_utf8(&file.bytes)?;
     Ok(format!(in alloc; "{said}{bytes:?} {}", file.syncs)?)
+}
+
+/// Commits each batch, and appends whether its lines were written.
+fn commit_all<D: LogFile + Drop>(
+    log: &mut LineLog<D>,
+    batches: &[Vec<RawBytes>],
+    said: &mut String,
+) -> Result<()> {
+    for batch in batches {
+        said.push_str(commit(log, batch)?)?;
+    }
+    Ok(())
 }
 
 /// Commits the lines of a batch. Returns whether they were written.
@@ -580,21 +590,26 @@ fn count_crashes(alloc: Global, batches: Value) -> Result<String> {
     };
     let mut log = LineLog::open(alloc, file)?;
     for batch in &batches {
-        for line in batch {
-            log.add_line(&line.0)?;
+        if commit(&mut log, batch)? != "taken " {
+            bail!("a commit failed");
         }
-        log.commit()?;
     }
     let file = log.into_file();
+    let lost = count_lost(alloc, &file.crashes)?;
+    Ok(format!(in alloc; "{} crashes, {lost} lost a line", file.crashes.len())?)
+}
+
+/// Counts the crashes that lose a line.
+fn count_lost(alloc: Global, crashes: &[Crash]) -> Result<u64> {
     let mut lost = 0u64;
-    for crash in &file.crashes {
+    for crash in crashes {
         let mut left = MemoryFile::new(alloc, crash.left.to_vec(alloc)?);
         repair(alloc, &mut left)?;
         if !left.bytes().starts_with(&crash.before) {
             lost = lost.saturating_add(1);
         }
     }
-    Ok(format!(in alloc; "{} crashes, {lost} lost a line", file.crashes.len())?)
+    Ok(lost)
 }
 
 /// Commits each batch of lines to a log over a torn file. Returns each result, then the file after two crashes. The
@@ -609,19 +624,23 @@ fn commit_to_torn_file(alloc: Global, case: Value) -> Result<String> {
     file.fail_sync(failing);
     let mut log = LineLog::open(alloc, file)?;
     let mut said = String::new(alloc);
-    for batch in &batches {
-        said.push_str(commit(&mut log, batch)?)?;
-    }
+    commit_all(&mut log, &batches, &mut said)?;
     let mut file = log.into_file();
-    file.crash(0, &behind.0)?;
+    crash_twice(alloc, &mut file, uncut, &behind.0)?;
+    let file = LineLog::open(alloc, file)?.into_file();
+    Ok(format!(in alloc; "{said}{:?}", str::from_utf8(file.on_disk())?)?)
+}
+
+/// Makes the two crashes of `commit_to_torn_file`.
+fn crash_twice(alloc: Global, file: &mut TornFile, uncut: usize, behind: &[u8]) -> Result<()> {
+    file.crash(0, behind)?;
     file.fail_sync(1);
-    match repair(alloc, &mut file) {
+    match repair(alloc, file) {
         Err(LogError::NotSynced(_)) => file.crash(uncut, b"")?,
         Err(LogError::Memory) => return Err(AllocError.into()),
         Ok(()) | Err(LogError::File(_)) => bail!("a sync that did not fail"),
     }
-    let file = LineLog::open(alloc, file)?.into_file();
-    Ok(format!(in alloc; "{said}{:?}", str::from_utf8(file.on_disk())?)?)
+    Ok(())
 }
 
 /// Opens a worker's file of these bytes, commits these lines to it, and returns its content. The calls are those of

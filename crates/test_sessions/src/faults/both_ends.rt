@@ -695,7 +695,12 @@ fn make_run(alloc: Global, plan: Plan, end: End, faults: Faults) -> Result<Tally
 /// Counts the bytes that an end sends and receives in a run with no fault.
 fn count_bytes(alloc: Global, plan: Plan, end: End) -> Result<usize, AllocError> {
     let mut session = make_session(alloc, plan)?;
-    let _tally = settle_session(&mut session)?;
+    count_settled_bytes(&mut session, end)
+}
+
+/// Settles a session with no fault, and counts the bytes that an end sends and receives.
+fn count_settled_bytes(session: &mut Session, end: End) -> Result<usize, AllocError> {
+    let _tally = settle_session(session)?;
     let remaining = match end {
         End::Producer => session.feed.link.faults.bytes,
         End::Worker => session.drain.link.faults.bytes,
@@ -752,6 +757,29 @@ fn set_torn_commit(session: &mut Session, commit: usize, torn: usize) -> Result<
     Ok(())
 }
 
+/// Returns the tally of the run in which a crash within this commit leaves the first `torn` bytes that were not synced.
+/// Returns also whether no crash leaves more.
+fn make_torn_run(
+    alloc: Global,
+    plan: Plan,
+    commit: usize,
+    torn: usize,
+) -> Result<(Tally, bool), AllocError> {
+    let mut session = make_session(alloc, plan)?;
+    play_torn(&mut session, commit, torn)
+}
+
+/// Plays the run of `make_torn_run`.
+fn play_torn(
+    session: &mut Session,
+    commit: usize,
+    torn: usize,
+) -> Result<(Tally, bool), AllocError> {
+    set_torn_commit(session, commit, torn)?;
+    let run = settle_session(session)?;
+    Ok((run, torn >= session.drain.max_unsynced))
+}
+
 /// Adds a run for each number of bytes that a crash within this commit may leave. Returns `false` if there
 /// is no such commit.
 fn add_torn(
@@ -761,14 +789,12 @@ fn add_torn(
     tally: &mut Tally,
 ) -> Result<bool, AllocError> {
     for torn in 0..LARGEST {
-        let mut session = make_session(alloc, plan)?;
-        set_torn_commit(&mut session, commit, torn)?;
-        let run = settle_session(&mut session)?;
+        let (run, is_most) = make_torn_run(alloc, plan, commit, torn)?;
         if run.failed == 0 {
             return Ok(false);
         }
         tally.add(run);
-        if torn >= session.drain.max_unsynced {
+        if is_most {
             break;
         }
     }
@@ -855,6 +881,12 @@ fn play_schedule(session: &mut Session, seed: u64) -> Result<Tally, AllocError> 
     settle_session(session)
 }
 
+/// Returns the tally of the run of the schedule with this seed.
+fn make_scheduled_run(alloc: Global, plan: Plan, seed: u64) -> Result<Tally, AllocError> {
+    let mut session = make_session(alloc, draw_plan(plan, seed))?;
+    play_schedule(&mut session, seed)
+}
+
 /// Adds the runs of as many schedules as the plan has records, from this seed on.
 fn add_schedules(
     alloc: Global,
@@ -864,8 +896,7 @@ fn add_schedules(
 ) -> Result<(), AllocError> {
     for number in 0..plan.records {
         let seed = seed.saturating_add(number) as u64;
-        let mut session = make_session(alloc, draw_plan(plan, seed))?;
-        tally.add(play_schedule(&mut session, seed)?);
+        tally.add(make_scheduled_run(alloc, plan, seed)?);
     }
     Ok(())
 }
